@@ -5,7 +5,7 @@ use Rattle.edi_schema.specs.Classes.{Classes}
 use Rattle.edi_schema.specs.Roles.{KindCodes}
 use Rattle.edi_schema.specs.SchemaRefusal.{IsGoodSchema, IsSchemaRefusal}
 use Rattle.edi_schema.specs.declared.fault.SchemaFault.{SchemaFault}
-use Rattle.edi_plan.specs.Plans.{Drawing}
+use Rattle.edi_plan.specs.Plans.{PlanData}
 use Rattle.edi_compare.specs.PlanOfFile.{IsPlanOfFile}
 use Rattle.edi_compare.specs.Refused.{IsProper, IsRefusal}
 use Rattle.edi_compare.specs.Rules.{IsAccepted}
@@ -65,7 +65,7 @@ module _ (form : AnswerForm) (kinds : KindCodes) (files : SheetFiles) (scd dic b
   no e h = subst (λ (a : Bool). MatchBool a Accepts Refuses) (sym e) h
 
   module _ (s : Classes) (good : IsGoodSchema scd dic kinds s) where
-    pub accepted_said : (p : Drawing) → IsAccepted s b → IsPlanOfFile s b p
+    pub accepted_said : (p : PlanData) → IsAccepted s b → IsPlanOfFile s b p
         → (said ≡ true) × IsSheetTextIn form outcome.Accepted answer × DescribesSheet s p words → Tells
     accepted_said p accepted plan h = yes h.0 (h.1, (s, p, good, accepted, plan, h.2))
 

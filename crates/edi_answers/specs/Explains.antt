@@ -4,7 +4,7 @@ use Rattle.edi_schema.specs.Classes.{Classes}
 use Rattle.edi_schema.specs.Roles.{KindCodes}
 use Rattle.edi_schema.specs.SchemaRefusal.{IsGoodSchema}
 use Rattle.edi_schema.specs.declared.fault.SchemaFault.{SchemaFault}
-use Rattle.edi_plan.specs.Plans.{Drawing}
+use Rattle.edi_plan.specs.Plans.{PlanData}
 use Rattle.edi_compare.specs.PlanOfFile.{IsPlanOfFile}
 use Rattle.edi_compare.specs.Refused.{IsProper, IsRefusal}
 use Rattle.edi_compare.specs.Rules.{IsAccepted}
@@ -31,7 +31,7 @@ use Rattle.edi_answers.specs.Statuses.{Answers, AreTried, Complains, IsUnsaid, M
 
 -- the lines on the plan of an accepted sheet, and on the classes of its records
 abbrev pub TellsPlan : KindCodes → List ℕ → List ℕ → List ℕ → List ℕ → Type 0
-TellsPlan kinds scd dic b lines = (s : Classes) × (p : Drawing) × IsGoodSchema scd dic kinds s × IsAccepted s b
+TellsPlan kinds scd dic b lines = (s : Classes) × (p : PlanData) × IsGoodSchema scd dic kinds s × IsAccepted s b
     × IsPlanOfFile s b p × DescribesSheet s p lines
 
 -- the lines on the classes of the four kinds, and those on what is read and not compared

@@ -6,7 +6,7 @@ use Rattle.std.specs.List.{HoldsAt}
 use Rattle.std.proofs.lemmas.Option.{slice_get_past, slice_get_read}
 use Rattle.std.proofs.lemmas.Grind.{common_steps}
 use Rattle.std.proofs.lemmas.Slice.Zip.{AllZip-left, AllZip-right}
-use Rattle.edi_line.specs.Entry.{Entry}
+use Rattle.edi_line.specs.ZoneData.{ZoneData}
 use Rattle.edi_line.specs.Zones.{groups_of}
 use Rattle.edi_explain.proofs.Zipped.{zip_push}
 use Rattle.edi_explain.specs.Sites.{AreAllSites, IsSiteIfAny, IsSiteOf, IsSiteOfGroup}
@@ -25,14 +25,14 @@ listed_more b name broken it text line (lines, all, is) one = (
 )
 
 -- the site at a place among those of all records is that of the record
-pub site_known : (zones : List Entry) (sites : List RecordSite) (number place : ℕ) (found : Option RecordSite) → number ≡ suc place
+pub site_known : (zones : List ZoneData) (sites : List RecordSite) (number place : ℕ) (found : Option RecordSite) → number ≡ suc place
     → AreAllSites (groups_of zones) sites → slice_get sites place ≡ found → IsSiteIfAny zones number found
 site_known zones sites number place (Some site) e are is =
     some_group (slice_get (groups_of zones) place) refl
     (subst (λ o. MatchOption o (Unit {0}) (λ y. IsSomeAnd (slice_get (groups_of zones) place) (λ x. IsSiteOfGroup x y))) is
     (AllZip-right IsSiteOfGroup (groups_of zones) sites are place))
   where
-    some_group : (o : Option (List Entry)) → slice_get (groups_of zones) place ≡ o → IsSomeAnd o (λ x. IsSiteOfGroup x site) → IsSiteOf zones number site
+    some_group : (o : Option (List ZoneData)) → slice_get (groups_of zones) place ≡ o → IsSomeAnd o (λ x. IsSiteOfGroup x site) → IsSiteOf zones number site
     some_group (Some group) at has = record { place = place; group = group; number_is = e; there = at; has_site = has }
     some_group None at has = absurd has
 site_known zones sites number place None e are is = λ site at.

@@ -1,13 +1,13 @@
 -- All that a phase breaks is all that a sheet breaks, where the phases before it hold and it doesn't.
 use Rattle.std.proofs.Common.{◌≡◌, ◌∙◌, ◌<◌, ℕ, Bool, false, true≢false, sym, IsTrue, List, [], ◌∷◌, length, refl, subst, arith, Any}
-use Rattle.edi_line.specs.Entry.{Entry}
+use Rattle.edi_line.specs.ZoneData.{ZoneData}
 use Rattle.edi_line.specs.LineRules.{BreaksLineRule, IsZonesOf}
 use Rattle.edi_line.specs.Refusal.{IsUnbroken}
 use Rattle.edi_line.proofs.ZonesSaid.{zones_of_one}
 use Rattle.edi_record.specs.RecordRules.{BreaksRecordRule}
 use Rattle.edi_record.specs.declared.sheet.Sheet.{Sheet}
 use Rattle.edi_schema.specs.Classes.{Classes}
-use Rattle.edi_plan.specs.Plans.{Drawing}
+use Rattle.edi_plan.specs.Plans.{PlanData}
 use Rattle.edi_plan.specs.ReferenceRules.{BreaksReferenceRule}
 use Rattle.edi_topo.specs.TopologyRules.{BreaksTopologyRule}
 use Rattle.edi_rank.specs.EqualObjects.{BreaksObjectRule}
@@ -39,7 +39,7 @@ module _ (s : Classes) (b : List ℕ) where
     only_lines is r p (of_topology plan held z g) = absurd (held.0.0 rule at is)
     only_lines is r p (of_objects plan held z g) = absurd (held.0.0.0 rule at is)
 
-    only_records : LinesHold s b → (zones : List Entry) → IsZonesOf b zones → BreaksRecordRule zones rule at
+    only_records : LinesHold s b → (zones : List ZoneData) → IsZonesOf b zones → BreaksRecordRule zones rule at
         → (r p : ℕ) → Breaks s b r p → BreaksRecordRule zones r p
     only_records lines zones are is r p (of_lines g) = absurd (lines r p g)
     only_records lines zones are is r p (of_records others held z g) = subst (λ zs. BreaksRecordRule zs r p) (zones_of_one b others zones z are) g
@@ -55,7 +55,7 @@ module _ (s : Classes) (b : List ℕ) where
     only_references records sheet states is r p (of_topology plan held z g) = absurd (held.1 sheet states rule at is)
     only_references records sheet states is r p (of_objects plan held z g) = absurd (held.0.1 sheet states rule at is)
 
-    only_topology : ReferencesHold s b → (plan : Drawing) → IsPlanOfFile s b plan → BreaksTopologyRule plan rule at
+    only_topology : ReferencesHold s b → (plan : PlanData) → IsPlanOfFile s b plan → BreaksTopologyRule plan rule at
         → (r p : ℕ) → Breaks s b r p → BreaksTopologyRule plan r p
     only_topology references plan states is r p (of_lines g) = absurd (references.0.0 r p g)
     only_topology references plan states is r p (of_records others held z g) = absurd (references.0.1 others z r p g)
@@ -63,7 +63,7 @@ module _ (s : Classes) (b : List ℕ) where
     only_topology references plan states is r p (of_topology other held z g) = subst (λ q. BreaksTopologyRule q r p) (one_plan s b other plan z states) g
     only_topology references plan states is r p (of_objects other held z g) = absurd (held.1 plan states rule at is)
 
-  only_objects : TopologyHolds s b → (plan : Drawing) → IsPlanOfFile s b plan
+  only_objects : TopologyHolds s b → (plan : PlanData) → IsPlanOfFile s b plan
       → (r p : ℕ) → Breaks s b r p → BreaksObjectRule plan r p
   only_objects topology plan states r p (of_lines g) = absurd (topology.0.0.0 r p g)
   only_objects topology plan states r p (of_records others held z g) = absurd (topology.0.0.1 others z r p g)
@@ -84,7 +84,7 @@ module _ (s : Classes) (b : List ℕ) where
       → AreAllBroken (Breaks s b) list
   all_of_lines list h some = phase (BreaksLineRule b) list h some (λ r p g. of_lines g) (λ rule at is r p g. only_lines rule at is r p g)
 
-  pub all_of_records : (list : List BrokenRule) → IsUnbroken (BreaksLineRule b) → (zones : List Entry) → IsZonesOf b zones
+  pub all_of_records : (list : List BrokenRule) → IsUnbroken (BreaksLineRule b) → (zones : List ZoneData) → IsZonesOf b zones
       → AreAllBroken (BreaksRecordRule zones) list → (list ≡ [] → ⊥) → AreAllBroken (Breaks s b) list
   all_of_records list lines zones are h some = phase (BreaksRecordRule zones) list h some
       (λ r p g. of_records zones lines are g) (λ rule at is r p g. only_records rule at lines zones are is r p g)
@@ -94,12 +94,12 @@ module _ (s : Classes) (b : List ℕ) where
   all_of_references list records sheet states h some = phase (BreaksReferenceRule s sheet.list) list h some
       (λ r p g. of_references sheet records states g) (λ rule at is r p g. only_references rule at records sheet states is r p g)
 
-  pub all_of_topology : (list : List BrokenRule) → ReferencesHold s b → (plan : Drawing) → IsPlanOfFile s b plan
+  pub all_of_topology : (list : List BrokenRule) → ReferencesHold s b → (plan : PlanData) → IsPlanOfFile s b plan
       → AreAllBroken (BreaksTopologyRule plan) list → (list ≡ [] → ⊥) → AreAllBroken (Breaks s b) list
   all_of_topology list references plan states h some = phase (BreaksTopologyRule plan) list h some
       (λ r p g. of_topology plan references states g) (λ rule at is r p g. only_topology rule at references plan states is r p g)
 
-  pub all_of_objects : (list : List BrokenRule) → TopologyHolds s b → (plan : Drawing) → IsPlanOfFile s b plan
+  pub all_of_objects : (list : List BrokenRule) → TopologyHolds s b → (plan : PlanData) → IsPlanOfFile s b plan
       → AreAllBroken (BreaksObjectRule plan) list → AreAllBroken (Breaks s b) list
   all_of_objects list topology plan states h = reworded (BreaksObjectRule plan) (Breaks s b) list
       (λ r p g. of_objects plan topology states g) (only_objects topology plan states) h

@@ -1,7 +1,7 @@
 -- The lines of all that a sheet breaks.
 use Rattle.std.specs.Prelude.{◌≡◌, ◌⊎◌, ◌<◌, ◌≤◌, ℕ, List, [], Option, MatchOption, flat_map}
 use Rattle.std.specs.List.{AllZip}
-use Rattle.edi_line.specs.Entry.{Entry}
+use Rattle.edi_line.specs.ZoneData.{ZoneData}
 use Rattle.edi_line.specs.LineRules.{IsZonesOf}
 use Rattle.edi_explain.specs.Lines.{line_line, record_line, sentence_of}
 use Rattle.edi_explain.specs.Sites.{IsSiteIfAny}
@@ -18,7 +18,7 @@ IsLineOfLine name it line =
 -- the line of the record of the file b with the sentence of the rule that it breaks; nothing if there is no such record
 abbrev pub IsLineOfRecord : List ℕ → List ℕ → BrokenRule → List ℕ → Type 0
 IsLineOfRecord b name it line =
-    (zones : List Entry) × (site : Option RecordSite) × IsZonesOf b zones × IsSiteIfAny zones it.at site
+    (zones : List ZoneData) × (site : Option RecordSite) × IsZonesOf b zones × IsSiteIfAny zones it.at site
     × MatchOption site (line ≡ []) (λ there. (text : Option RuleText) × IsRuleText it.rule text
     × (line ≡ record_line name there (sentence_of text) it.rule))
 

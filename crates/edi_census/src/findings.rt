@@ -94,9 +94,9 @@ impl Drop for JudgedTopology<'_> {
 
 impl<'a> Model for JudgedTopology<'a> {
     ghost use Rattle.std.specs.Prelude.{◌≡◌, length};
-    ghost use Rattle.edi_plan.specs.Plans.{Drawing};
+    ghost use Rattle.edi_plan.specs.Plans.{PlanData};
 
-    ghost Value = { Drawing };
+    ghost Value = { PlanData };
 
     ghost view = { λ j. j.findings };
 
@@ -150,11 +150,11 @@ impl Drop for JudgedObjects<'_> {
 
 impl<'a> Model for JudgedObjects<'a> {
     ghost use Rattle.std.specs.Prelude.{◌≡◌, ◌+◌, length};
-    ghost use Rattle.edi_plan.specs.Plans.{Drawing};
+    ghost use Rattle.edi_plan.specs.Plans.{PlanData};
     ghost use Rattle.edi_rank.specs.EqualObjects.{BreaksObjectRule};
     ghost use Rattle.edi_topo.specs.Marks.{AreMarksOf};
 
-    ghost Value = { Drawing };
+    ghost Value = { PlanData };
 
     ghost view = { λ j. j.sound.now };
 

@@ -1,7 +1,7 @@
 //! The lines of all that a sheet breaks.
 
 ghost use Rattle.std.specs.Prelude.{◌≡◌, ◌++◌, ◌≤◌, [], List, ℕ, IfOk, OnOk, option_copied};
-ghost use Rattle.edi_line.specs.Entry.{Entry};
+ghost use Rattle.edi_line.specs.ZoneData.{ZoneData};
 ghost use Rattle.edi_line.specs.Zones.{groups_of};
 ghost use Rattle.edi_compare.specs.Rules.{Breaks};
 ghost use Rattle.edi_explain.specs.Sites.{AreAllSites, IsSiteIfAny};
@@ -19,7 +19,7 @@ const FIRST_OF_RECORDS: u16 = 200;
 
 /// The site of the record with a number, from 1.
 fn site_at(sites: &[RecordSite], number: u64) -> Option<&RecordSite>
-    ensures { (zones : List Entry) → AreAllSites (groups_of zones) sites.now
+    ensures { (zones : List ZoneData) → AreAllSites (groups_of zones) sites.now
         → IsSiteIfAny zones number (option_copied result) }
 {
     let place = number.checked_sub(1)?;

@@ -1,7 +1,7 @@
 //! All that the first broken phase of a sheet breaks.
 
 ghost use Rattle.std.specs.Prelude.{◌≡◌, [], List, IfOk, IsTrue};
-ghost use Rattle.edi_line.specs.Entry.{Entry};
+ghost use Rattle.edi_line.specs.ZoneData.{ZoneData};
 ghost use Rattle.edi_line.specs.LineRules.{BreaksLineRule, IsZonesOf};
 ghost use Rattle.edi_line.specs.Refusal.{IsUnbroken};
 ghost use Rattle.edi_record.specs.RecordRules.{BreaksRecordRule};
@@ -29,7 +29,7 @@ fn is_none(list: &[BrokenRule]) -> bool
 /// All that the records of a file break that breaks no rule of lines.
 fn broken_in_records(alloc: Global, bytes: &[u8]) -> Result<Vec<BrokenRule>, AllocError>
     requires { IsUnbroken (BreaksLineRule bytes.now) }
-    ensures { IfOk result (λ list. (zones : List Entry) × IsZonesOf bytes.now zones
+    ensures { IfOk result (λ list. (zones : List ZoneData) × IsZonesOf bytes.now zones
         × AreAllBroken (BreaksRecordRule zones) list.items) }
 {
     match broken_records_from(alloc, FileBytes::Whole(CowSlice::Borrowed(bytes))) {

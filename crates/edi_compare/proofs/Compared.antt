@@ -4,7 +4,7 @@ use Rattle.std.specs.List.{slice_get}
 use Rattle.edi_line.specs.inner.Lines.{lines_of}
 use Rattle.edi_line.proofs.Cut.{lines_unique}
 use Rattle.edi_schema.specs.Classes.{Classes, IsSchema}
-use Rattle.edi_plan.specs.Plans.{Drawing}
+use Rattle.edi_plan.specs.Plans.{PlanData}
 use Rattle.edi_rank.specs.Arranged.{arranged, new_place}
 use Rattle.edi_rank.specs.Labelling.{Labelling, turned_at}
 use Rattle.edi_rank.specs.Laws.{IsPlanUnder}
@@ -13,7 +13,7 @@ use Rattle.edi_rank.proofs.ArrangedUnder.{under_arranged}
 use Rattle.edi_rank.proofs.Arranging.{carries_arranged}
 use Rattle.edi_rank.proofs.SameLaws.{same_sym, same_trans}
 use Rattle.edi_compare.specs.inner.Forms.{HasFirst, IsPlanForm}
-use Rattle.edi_compare.specs.Namesakes.{HasNamesakes, PairsByNumber}
+use Rattle.edi_compare.specs.Counterparts.{HasCounterparts, PairsByNumber}
 use Rattle.edi_compare.specs.PlanOfFile.{IsPlanOfFile}
 use Rattle.edi_compare.specs.Verdicts.{IsFileOfPlan, IsPlanVerdict, IsVerdict, IsFirstDifference}
 use Rattle.edi_compare.specs.declared.comparing.FirstForm.{FirstForm}
@@ -21,7 +21,7 @@ use Rattle.edi_compare.specs.declared.pairing.Pairing.{Pairing}
 use Rattle.edi_compare.specs.declared.pairing.Verdict.{Verdict}
 use Rattle.edi_compare.specs.declared.pairing.Verdict.TheVariants.{Same, Different}
 use Rattle.edi_compare.proofs.Headline.{one_plan, plan_under, unique}
-use Rattle.edi_compare.proofs.Pairs.{has_namesakes, pairing_carries}
+use Rattle.edi_compare.proofs.Pairs.{has_counterparts, pairing_carries}
 use Rattle.edi_compare.proofs.Phases.{one_plan as one_plan_of}
 use Rattle.edi_compare.proofs.Reading.{reading_is_one}
 
@@ -30,7 +30,7 @@ not_equal c d line first e = first.differ (ap (λ lines. slice_get lines first.p
 
 -- what is known of the form of a plan
 
-module _ (s : Classes) (keeps : IsSchema s) (p : Drawing) (l : Labelling) (c : List ℕ) (form : IsPlanForm s p l c) where
+module _ (s : Classes) (keeps : IsSchema s) (p : PlanData) (l : Labelling) (c : List ℕ) (form : IsPlanForm s p l c) where
   form_under : IsPlanUnder s p
   form_under = plan_under s form.accepted.0 p keeps form.accepted.1 form.accepted.2
 
@@ -43,7 +43,7 @@ module _ (s : Classes) (keeps : IsSchema s) (p : Drawing) (l : Labelling) (c : L
   form_file : IsFileOfPlan s p c
   form_file = (form.canonical, (arranged s l p, form.arranged_plan, form_same))
 
-module _ (s : Classes) (keeps : IsSchema s) (p q : Drawing) (f : FirstForm) (m : Labelling) (d : List ℕ) (untouched : HasFirst s p f) (other : IsPlanForm s q m d) where
+module _ (s : Classes) (keeps : IsSchema s) (p q : PlanData) (f : FirstForm) (m : Labelling) (d : List ℕ) (untouched : HasFirst s p f) (other : IsPlanForm s q m d) where
   abbrev l : Labelling
   l = untouched.labels
 
@@ -83,16 +83,16 @@ module _ (s : Classes) (keeps : IsSchema s) (p q : Drawing) (f : FirstForm) (m :
         one_plan reading_is_one s keeps d (arranged s l p) (arranged s m q)
         (subst (λ x. IsPlanOfFile s x (arranged s l p)) equal form.arranged_plan) other.arranged_plan
 
-    pub counts : HasNamesakes f.records m
-    counts = has_namesakes s p q l m form.labels other.labels one_arranged f.records untouched.records
+    pub counts : HasCounterparts f.records m
+    counts = has_counterparts s p q l m form.labels other.labels one_arranged f.records untouched.records
 
     pub paired_same : (pairing : Pairing) → PairsByNumber f.records m pairing → IsPlanVerdict s p q (Same pairing)
     paired_same pairing by = pairing_carries s p q l m form.labels other.labels one_arranged f.records untouched.records pairing by under under'
 
 -- the verdict on the plans of two files is that on the files
 
-module _ (s : Classes) (a b : List ℕ) (p q : Drawing) (states : IsPlanOfFile s a p) (states' : IsPlanOfFile s b q) where
-  one_same : (r t : Drawing) → IsPlanOfFile s a r → IsPlanOfFile s b t → IsSame s r t → IsSame s p q
+module _ (s : Classes) (a b : List ℕ) (p q : PlanData) (states : IsPlanOfFile s a p) (states' : IsPlanOfFile s b q) where
+  one_same : (r t : PlanData) → IsPlanOfFile s a r → IsPlanOfFile s b t → IsSame s r t → IsSame s p q
   one_same r t h g same = subst (λ x. IsSame s p x) (one_plan_of s b t q g states') (subst (λ x. IsSame s x t) (one_plan_of s a r p h states) same)
 
   pub verdict_on_files : (verdict : Verdict) → IsPlanVerdict s p q verdict → IsVerdict s a b verdict

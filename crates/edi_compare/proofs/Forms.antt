@@ -15,7 +15,7 @@ use Rattle.edi_record.proofs.SheetStated.{sheet_stated}
 use Rattle.edi_record.proofs.Sound.{sheet_sound}
 use Rattle.edi_schema.specs.Classes.{Classes, IsSchema}
 use Rattle.edi_plan.specs.Joined.{IsJoined}
-use Rattle.edi_plan.specs.Plans.{Drawing}
+use Rattle.edi_plan.specs.Plans.{PlanData}
 use Rattle.edi_topo.specs.TopologyRules.{BreaksTopologyRule}
 use Rattle.edi_rank.specs.EqualObjects.{BreaksObjectRule}
 use Rattle.edi_rank.specs.Arranged.{new_place, arranged}
@@ -47,7 +47,7 @@ use Rattle.edi_compare.proofs.Reading.{reading_is_one}
 
 -- The layout of the plan of an accepted sheet, whose records are numbered and put in order by their labels.
 pub record IsLayoutOf (s : Classes) (b c : List ℕ) : Type 0 where
-  pub plan : Drawing
+  pub plan : PlanData
   pub labels : Labelling
   pub accepted : IsAccepted s b
   pub states : IsPlanOfFile s b plan
@@ -65,7 +65,7 @@ settled_in_shape s (r ∷ rs) all = rw (settled_shape s r, all.0.shape) (settled
 
 -- ---- the file of the records that are written of a plan
 
-module _ (s : Classes) (q : Drawing) (keeps : IsSchema s) (under : IsPlanUnder s q) (can : CanBePrinted q.cse (written_records s q)) where
+module _ (s : Classes) (q : PlanData) (keeps : IsSchema s) (under : IsPlanUnder s q) (can : CanBePrinted q.cse (written_records s q)) where
   abbrev written : List Record
   written = written_records s q
 
@@ -106,10 +106,10 @@ module _ (s : Classes) (q : Drawing) (keeps : IsSchema s) (under : IsPlanUnder s
 -- ---- the layout of a sheet
 
 module _ (s : Classes) (b c : List ℕ) (f : IsLayoutOf s b c) (keeps : IsSchema s) (short : length b < 2 ^ 64) where
-  abbrev p : Drawing
+  abbrev p : PlanData
   p = f.plan
 
-  abbrev q : Drawing
+  abbrev q : PlanData
   q = arranged s f.labels p
 
   under : IsPlanUnder s p
@@ -172,7 +172,7 @@ canonical_file s b c keeps short bytes f =
     record { accepted = f.accepted; canonical = form; same = same; only = decide reading_is_one s keeps b c f.accepted form same }
 
 -- the layout of an accepted plan is its canonical file
-pub plan_form : (s : Classes) (p : Drawing) (l : Labelling) (c : List ℕ) → IsSchema s → IsBytes c → IsHeldPlan s p → AreLabels s p l → c ≡ layout s (arranged s l p) → IsPlanForm s p l c
+pub plan_form : (s : Classes) (p : PlanData) (l : Labelling) (c : List ℕ) → IsSchema s → IsBytes c → IsHeldPlan s p → AreLabels s p l → c ≡ layout s (arranged s l p) → IsPlanForm s p l c
 plan_form s p l c keeps bytes held labels laid_out = record {
   accepted = (held.0, held.2, held.3);
   labels = labels;

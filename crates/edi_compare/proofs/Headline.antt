@@ -4,7 +4,7 @@ use Rattle.edi_line.specs.Refusal.{IsUnbroken}
 use Rattle.edi_record.specs.declared.sheet.Sheet.{Sheet}
 use Rattle.edi_schema.specs.Classes.{Classes, IsSchema}
 use Rattle.edi_schema.proofs.Paired.{paired}
-use Rattle.edi_plan.specs.Plans.{Drawing}
+use Rattle.edi_plan.specs.Plans.{PlanData}
 use Rattle.edi_plan.specs.ReferenceRules.{BreaksReferenceRule}
 use Rattle.edi_plan.specs.Joined.{IsJoined}
 use Rattle.edi_plan.proofs.Built.{plans_whole, plans_agreeing, one_plan_of}
@@ -37,16 +37,16 @@ module _ (s : Classes) (b : List ℕ) (accepted : IsAccepted s b) where
   references_hold_all : ReferencesHold s b
   references_hold_all = (records_hold, references_hold)
 
-  pub topology_hold : (p : Drawing) → IsPlanOfFile s b p → IsUnbroken (BreaksTopologyRule p)
+  pub topology_hold : (p : PlanData) → IsPlanOfFile s b p → IsUnbroken (BreaksTopologyRule p)
   topology_hold p states rule at broken = accepted rule at (of_topology p references_hold_all states broken)
 
-  pub objects_hold : (p : Drawing) → IsPlanOfFile s b p → IsUnbroken (BreaksObjectRule p)
+  pub objects_hold : (p : PlanData) → IsPlanOfFile s b p → IsUnbroken (BreaksObjectRule p)
   objects_hold p states rule at broken = accepted rule at (of_objects p (references_hold_all, topology_hold) states broken)
 
-pub plan_joined : (s : Classes) (b : List ℕ) (p : Drawing) → IsAccepted s b → IsPlanOfFile s b p → IsJoined p
+pub plan_joined : (s : Classes) (b : List ℕ) (p : PlanData) → IsAccepted s b → IsPlanOfFile s b p → IsJoined p
 plan_joined s b p accepted states = plans_joined s states.0 p states.2 (references_hold s b accepted states.0 states.1)
 
-pub plan_under : (s : Classes) (b : List ℕ) (p : Drawing) → IsSchema s → IsAccepted s b → IsPlanOfFile s b p → IsPlanUnder s p
+pub plan_under : (s : Classes) (b : List ℕ) (p : PlanData) → IsSchema s → IsAccepted s b → IsPlanOfFile s b p → IsPlanUnder s p
 plan_under s b p keeps accepted states = record {
   paired = paired s keeps;
   whole = plans_whole s states.0 p states.2 (references_hold s b accepted states.0 states.1);
@@ -60,11 +60,11 @@ equivalence s keeps = record {
   transitive = λ p q r h g k first second. same_trans s p q r (under p h) (under q g) (under r k) first second;
 }
   where
-    under : (p : Drawing) → IsAcceptedPlan s p → IsPlanUnder s p
+    under : (p : PlanData) → IsAcceptedPlan s p → IsPlanUnder s p
     under p h = plan_under s h.0 p keeps h.1 h.2
 
 module _ (ones : ReadingIsOne) (s : Classes) (keeps : IsSchema s) where
-  pub one_plan : (b : List ℕ) (p q : Drawing) → IsPlanOfFile s b p → IsPlanOfFile s b q → p ≡ q
+  pub one_plan : (b : List ℕ) (p q : PlanData) → IsPlanOfFile s b p → IsPlanOfFile s b q → p ≡ q
   one_plan b p q h g = let e = ones.sheets b h.0 g.0 h.1 g.1 in one_plan_of s h.0 g.0 p q e.0 e.1 h.2 g.2
 
   states_sym : (a b : List ℕ) → IsAccepted s a → IsAccepted s b → StateSame s a b → StateSame s b a
@@ -83,7 +83,7 @@ module _ (ones : ReadingIsOne) (s : Classes) (keeps : IsSchema s) where
       )
 
   -- of two canonical sheets with one plan the bytes are the same
-  pub unique : (c d : List ℕ) (p q : Drawing) (to : ℕ → ℕ) (turned : ℕ → Bool) → IsCanonical s c → IsCanonical s d → IsPlanOfFile s c p → IsPlanOfFile s d q → Carries s to turned p q → c ≡ d
+  pub unique : (c d : List ℕ) (p q : PlanData) (to : ℕ → ℕ) (turned : ℕ → Bool) → IsCanonical s c → IsCanonical s d → IsPlanOfFile s c p → IsPlanOfFile s d q → Carries s to turned p q → c ≡ d
   unique c d p q to turned h g states states' carries =
       let e : h.plan ≡ p = one_plan c h.plan p h.states states in
       let f : g.plan ≡ q = one_plan d g.plan q g.states states' in

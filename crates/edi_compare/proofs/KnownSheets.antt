@@ -18,7 +18,7 @@ use Rattle.edi_record.specs.declared.sheet.Sheet.{Sheet}
 use Rattle.edi_record.specs.inner.Records.{set_after, value_after, attributes, sns_after, ends, placed}
 use Rattle.edi_record.specs.inner.Texts.{pointer, point, count}
 use Rattle.edi_schema.specs.Classes.{IsSchema}
-use Rattle.edi_plan.specs.Plans.{Drawing, IsPlace}
+use Rattle.edi_plan.specs.Plans.{PlanData, IsPlace}
 use Rattle.edi_plan.specs.inner.Resolving.{is_elsewhere}
 use Rattle.edi_topo.specs.TopologyRules.{BreaksTopologyRule}
 use Rattle.edi_topo.proofs.AtPlaces.{breaks_of_node, broken_place}
@@ -124,7 +124,7 @@ node_form =
 
 -- ---- the sheet without records
 
-abbrev empty_plan : Drawing
+abbrev empty_plan : PlanData
 empty_plan = record { cse = None; list = [] }
 
 abbrev empty_labels : Labelling

@@ -7,7 +7,7 @@ use Rattle.edi_record.specs.declared.record.Point.{Point}
 use Rattle.edi_schema.specs.Roles.{same_role}
 use Rattle.edi_schema.specs.declared.role.Role.{Role}
 use Rattle.edi_schema.specs.declared.role.Role.TheVariants.{Initial, Final, Left, Right, Plain}
-use Rattle.edi_plan.specs.Plans.{Drawing, IsPlace, record_at, same_kind}
+use Rattle.edi_plan.specs.Plans.{PlanData, IsPlace, record_at, same_kind}
 use Rattle.edi_plan.specs.Sides.{Side, targets}
 use Rattle.edi_plan.specs.inner.Resolving.{is_elsewhere}
 use Rattle.edi_plan.proofs.Built.{plans_whole, plans_agreeing}
@@ -36,7 +36,7 @@ IsSide role = (role ≡ Left) ⊎ (role ≡ Right)
 
 -- whatever the classes of the links to the faces, and on whichever sides they are
 module _ (f_class : ℕ) (f_role : Role) (g_class : ℕ) (g_role : Role) where
-  abbrev p : Drawing
+  abbrev p : PlanData
   p = arc_plan f_class f_role g_class g_role
 
   abbrev IsOnly : Role → ℕ → Type 0

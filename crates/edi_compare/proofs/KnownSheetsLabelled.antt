@@ -10,7 +10,7 @@ use Rattle.edi_record.specs.Orders.{points_cmp}
 use Rattle.edi_record.specs.declared.record.Kind.{Kind}
 use Rattle.edi_record.specs.declared.record.Kind.TheVariants.{Pno, Par, Pfe, Fea, Lnk}
 use Rattle.edi_schema.specs.Classes.{Classes}
-use Rattle.edi_plan.specs.Plans.{Drawing, IsPlace, record_at, same_kind, others_of, kind_rank}
+use Rattle.edi_plan.specs.Plans.{PlanData, IsPlace, record_at, same_kind, others_of, kind_rank}
 use Rattle.edi_plan.proofs.Built.{both_true}
 use Rattle.edi_plan.proofs.PlaceLemmas.{one_kind}
 use Rattle.edi_topo.specs.NodeKeys.{node_key, node_key_cmp}
@@ -52,11 +52,11 @@ none_at (x ∷ xs) e = absurd (omega (arith, e))
 
 -- ---- the labels of a plan
 
-module _ (s : Classes) (p : Drawing) (l : Labelling) where
+module _ (s : Classes) (p : PlanData) (l : Labelling) where
   abbrev number : ℕ → ℕ
   number k = number_of l k
 
-  abbrev q : Drawing
+  abbrev q : PlanData
   q = turned_by s l p
 
   -- the records of a type by their numbers, from this number on

@@ -7,7 +7,7 @@ use Rattle.std.proofs.lemmas.List.Sorted.{IsPermutation-refl, list_any-IsPermuta
 use Rattle.edi_record.specs.declared.record.Kind.{Kind}
 use Rattle.edi_record.specs.declared.record.Kind.TheVariants.{Par, Pfe, Fea}
 use Rattle.edi_schema.specs.Classes.{Classes, partner_of}
-use Rattle.edi_plan.specs.Plans.{Drawing, record_at, same_kind, first_of, rest_of, origin_of, others_of}
+use Rattle.edi_plan.specs.Plans.{PlanData, record_at, same_kind, first_of, rest_of, origin_of, others_of}
 use Rattle.edi_plan.specs.declared.record.PlanEnd.{PlanEnd}
 use Rattle.edi_plan.specs.declared.record.PlanRecord.{PlanRecord}
 use Rattle.edi_rank.specs.Labelling.{turned_at}
@@ -100,10 +100,10 @@ arc_paired = record { all_paired = refl; all_directed = refl; carries = arc_carr
 -- ---- with the sides exchanged
 
 module _ (to : ℕ → ℕ) (turned : ℕ → Bool) (c : Carries arc_classes to turned turned_arc_plan exchanged_plan) where
-  abbrev p : Drawing
+  abbrev p : PlanData
   p = turned_arc_plan
 
-  abbrev q : Drawing
+  abbrev q : PlanData
   q = exchanged_plan
 
   kind_of : (kind : Kind) (i : ℕ) → i < 12 → (record_at p i).kind ≡ kind → same_kind (record_at q (to i)).kind kind ≡ same_kind kind kind

@@ -1,7 +1,7 @@
 -- What a known file states, by computing.
 use Rattle.std.proofs.Common.{◌≡◌, sym, subst, ap, refl, ℕ, Bool, true, List, [], ◌∷◌, ◌++◌, length, map, Option, Some, None, option_map, is_none, codes, cond, arith}
 use Rattle.std.specs.List.{AllZip, list_all}
-use Rattle.edi_line.specs.Entry.{Entry}
+use Rattle.edi_line.specs.ZoneData.{ZoneData}
 use Rattle.edi_line.specs.Feeding.{seen_in}
 use Rattle.edi_line.specs.Refusal.{IsUnbroken}
 use Rattle.edi_line.specs.inner.Refusal.{first_broken}
@@ -28,7 +28,7 @@ use Rattle.edi_record.proofs.RulesSaid.{records_unbroken}
 use Rattle.edi_record.proofs.StatesSaid.{states_said}
 use Rattle.edi_schema.specs.Classes.{Classes, place_of, role_named}
 use Rattle.edi_schema.specs.declared.role.Role.{Role}
-use Rattle.edi_plan.specs.Plans.{Drawing, rest_of}
+use Rattle.edi_plan.specs.Plans.{PlanData, rest_of}
 use Rattle.edi_plan.specs.PlanOf.{place_named, StatesPlanAttribute, StatesPlanEnd, StatesPlanRecord}
 use Rattle.edi_plan.specs.declared.record.PlanEnd.{PlanEnd}
 use Rattle.edi_plan.specs.declared.record.PlanRecord.{PlanRecord}
@@ -68,7 +68,7 @@ pub record Parts : Type 0 where
   pub extras : List Extra
 
 -- what reading finds in a group, and what it is to find for a record
-abbrev pub found : Kind → List Entry → Parts
+abbrev pub found : Kind → List ZoneData → Parts
 found kind group = record {
   type = values (codes "RTY") group;
   rid = values (codes "RID") group;
@@ -90,7 +90,7 @@ wanted r = record {
   extras = r.extras;
 }
 
-read_as : (group : List Entry) (r : Record) → found r.kind group ≡ wanted r → ReadsAs group r
+read_as : (group : List ZoneData) (r : Record) → found r.kind group ≡ wanted r → ReadsAs group r
 read_as group r e = record {
   type = ap (λ (p : Parts). p.type) e;
   rid = ap (λ (p : Parts). p.rid) e;
@@ -101,12 +101,12 @@ read_as group r e = record {
   extras = ap (λ (p : Parts). p.extras) e;
 }
 
-abbrev pub all_found : List Record → List (List Entry) → List Parts
+abbrev pub all_found : List Record → List (List ZoneData) → List Parts
 all_found [] groups = []
 all_found (r ∷ rs) [] = []
 all_found (r ∷ rs) (g ∷ gs) = found r.kind g ∷ all_found rs gs
 
-all_stated : (list : List Record) (groups : List (List Entry)) → length groups ≡ length list → all_found list groups ≡ map wanted list → AllZip States groups list
+all_stated : (list : List Record) (groups : List (List ZoneData)) → length groups ≡ length list → all_found list groups ≡ map wanted list → AllZip States groups list
 all_stated [] [] n e = tt
 all_stated [] (g ∷ gs) n e = absurd (omega (arith, n))
 all_stated (r ∷ rs) [] n e = absurd (omega (arith, n))
@@ -120,7 +120,7 @@ abbrev pub to_read : List Record → ℕ × List Parts
 to_read list = (length list, map wanted list)
 
 pub sheet_as : (bytes : List ℕ) (sheet : Sheet) → first_fault (seen_in []) 1 (readings_of bytes) ≡ None
-    → sheet.cse ≡ option_map (λ (e : Entry). e.value) (charset_of (zones_of bytes)) → is_read bytes sheet.list ≡ to_read sheet.list → IsSheetOf bytes sheet
+    → sheet.cse ≡ option_map (λ (e : ZoneData). e.value) (charset_of (zones_of bytes)) → is_read bytes sheet.list ≡ to_read sheet.list → IsSheetOf bytes sheet
 sheet_as bytes sheet lines set e = (
   zones_of bytes,
   zones_as bytes (zones_of bytes) lines refl,
@@ -129,14 +129,14 @@ sheet_as bytes sheet lines set e = (
 
 -- ---- the rules of records
 
-abbrev pub keeps_rules : List Entry → Bool
+abbrev pub keeps_rules : List ZoneData → Bool
 keeps_rules group = is_none (first_broken (record_tests group))
 
 all_at : {X : Type 0} (test : X → Bool) (before : List X) (x : X) (after : List X) → list_all test (before ++ x ∷ after) ≡ true → test x ≡ true
 all_at test [] x after e = (both_true _ _ e).0
 all_at test (b ∷ before) x after e = all_at test before x after (both_true _ _ e).1
 
-groups_unbroken : (zones : List Entry) → list_all keeps_rules (groups_of zones) ≡ true → IsUnbroken (BreaksRecordRule zones)
+groups_unbroken : (zones : List ZoneData) → list_all keeps_rules (groups_of zones) ≡ true → IsUnbroken (BreaksRecordRule zones)
 groups_unbroken zones e = records_unbroken zones fails
   where
     fails : (rule place : ℕ) → FailsTest zones rule place → ⊥
@@ -199,5 +199,5 @@ record_planned s list r p e = record {
     end_planned : (d : End) (t : PlanEnd) → ◌≡◌ {A = Option ℕ × Option (List ℕ)} (place_named list d.target, d.sns) (Some t.target, t.sns) → StatesPlanEnd list d t
     end_planned d t same = record { target = ap (λ (x : Option ℕ × Option (List ℕ)). x.0) same; sns = sym (ap (λ (x : Option ℕ × Option (List ℕ)). x.1) same) }
 
-pub plan_as : (s : Classes) (bytes : List ℕ) (sheet : Sheet) (p : Drawing) → IsSheetOf bytes sheet → p.cse ≡ sheet.cse → map (resolved s sheet.list) sheet.list ≡ map planned p.list → IsPlanOfFile s bytes p
+pub plan_as : (s : Classes) (bytes : List ℕ) (sheet : Sheet) (p : PlanData) → IsSheetOf bytes sheet → p.cse ≡ sheet.cse → map (resolved s sheet.list) sheet.list ≡ map planned p.list → IsPlanOfFile s bytes p
 plan_as s bytes sheet p states set e = (sheet, states, record { set = set; each = zip_of_maps (StatesPlanRecord s sheet.list) (resolved s sheet.list) planned (record_planned s sheet.list) sheet.list p.list e })

@@ -21,7 +21,7 @@ use Rattle.edi_record.proofs.RowsHold.{wrong_count}
 use Rattle.edi_schema.specs.Classes.{Classes}
 use Rattle.edi_schema.specs.declared.role.Role.{Role}
 use Rattle.edi_schema.specs.declared.role.Role.TheVariants.{Left, Right}
-use Rattle.edi_plan.specs.Plans.{Drawing, record_at}
+use Rattle.edi_plan.specs.Plans.{PlanData, record_at}
 use Rattle.edi_plan.specs.ReferenceRules.{BreaksReferenceRule, IsRecordAt}
 use Rattle.edi_plan.specs.ReferenceRules.BreaksReferenceRule.{repeats_name, lacks_class, lacks_attribute_class, leaves_subset, names_nothing, joins_wrong, repeats_side}
 use Rattle.edi_plan.specs.Sides.{Side}
@@ -111,7 +111,7 @@ class_refused = reference_refusal node_classes lone_face_sheet 302 1 (face_recor
 
 -- ---- topology
 
-abbrev face_plan : Drawing
+abbrev face_plan : PlanData
 face_plan = record { cse = None; list = bare Pfe 2 [] ∷ [] }
 
 face_states : IsPlanOfFile arc_classes lone_face_sheet face_plan
@@ -161,7 +161,7 @@ objects_sheet = record {
   in_shape = refl;
 }
 
-abbrev objects_plan : Drawing
+abbrev objects_plan : PlanData
 objects_plan = record { cse = None; list = bare Fea 0 [] ∷ bare Fea 0 [] ∷ [] }
 
 objects_lines_hold : first_fault (seen_in []) 1 (readings_of equal_objects_sheet) ≡ None

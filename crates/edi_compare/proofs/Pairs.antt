@@ -6,7 +6,7 @@ use borrow.Author.Count.{below_more}
 use Rattle.std.proofs.lemmas.Option.{slice_get-get_or, slice_get_within}
 use Rattle.edi_record.specs.declared.record.Kind.{Kind}
 use Rattle.edi_schema.specs.Classes.{Classes}
-use Rattle.edi_plan.specs.Plans.{Drawing, IsPlace, record_at}
+use Rattle.edi_plan.specs.Plans.{PlanData, IsPlace, record_at}
 use Rattle.edi_rank.specs.Arranged.{offset, new_place, arranged}
 use Rattle.edi_rank.specs.Labelling.{Labelling, AreLabels, order_of, number_of, turned_at}
 use Rattle.edi_rank.specs.Laws.{IsPlanUnder}
@@ -16,7 +16,7 @@ use Rattle.edi_rank.proofs.Arranging.{carries_arranged}
 use Rattle.edi_rank.proofs.Carried.{carries_between}
 use Rattle.edi_rank.proofs.Offsets.{one_offset, one_count}
 use Rattle.edi_rank.proofs.SameLaws.{differ}
-use Rattle.edi_compare.specs.Namesakes.{HasNamesakes, IsNumbered, PairsByNumber, kind_at, namesake, number_at}
+use Rattle.edi_compare.specs.Counterparts.{HasCounterparts, IsNumbered, PairsByNumber, kind_at, counterpart, number_at}
 use Rattle.edi_compare.specs.Pairings.{PairingCarries}
 use Rattle.edi_compare.specs.declared.numbered.NumberedRecords.{NumberedRecords}
 use Rattle.edi_compare.specs.declared.pairing.Pairing.{Pairing}
@@ -28,7 +28,7 @@ known_differ true false = refl
 known_differ false true = refl
 known_differ false false = refl
 
-module _ (s : Classes) (p q : Drawing) (l m : Labelling) (labels : AreLabels s p l) (labels' : AreLabels s q m) (f : NumberedRecords) (first : IsNumbered p l f) where
+module _ (s : Classes) (p q : PlanData) (l m : Labelling) (labels : AreLabels s p l) (labels' : AreLabels s q m) (f : NumberedRecords) (first : IsNumbered p l f) where
   number_is : (k : ℕ) → number_at f k ≡ number_of l k
   number_is k = ap (λ (ns : List ℕ). slice_index ns k) first.numbers
 
@@ -41,9 +41,9 @@ module _ (s : Classes) (p q : Drawing) (l m : Labelling) (labels : AreLabels s p
   ordered_there : (kind : Kind) (i : ℕ) → i < length (order_of m kind) → IsPlace q (slice_index (order_of m kind) i)
   ordered_there kind i h = (labels'.orders kind i (slice_index (order_of m kind) i) (slice_get-get_or (order_of m kind) i 0 h)).0
 
-  -- where the second plan has as many records of a type as the numbers of the first go, each has a namesake
-  pub have_namesakes : ((k : ℕ) → IsPlace p k → number_of l k ≤ length (order_of m (record_at p k).kind)) → HasNamesakes f m
-  have_namesakes fits = record {
+  -- where the second plan has as many records of a type as the numbers of the first go, each has a counterpart
+  pub have_counterparts : ((k : ℕ) → IsPlace p k → number_of l k ≤ length (order_of m (record_at p k).kind)) → HasCounterparts f m
+  have_counterparts fits = record {
     numbered = ap length first.numbers ∙ (labels.all_numbered ∙ sym first.long);
     directed = ap length first.turned ∙ (labels.all_directed ∙ sym first.long);
     from_one = λ k h. subst (λ n. 1 ≤ n) (sym (number_is k)) (labels.from_one k (within k h));
@@ -53,21 +53,21 @@ module _ (s : Classes) (p q : Drawing) (l m : Labelling) (labels : AreLabels s p
     there = λ kind i h. omega (arith, ordered_there kind i h, labels'.all_directed);
   }
 
-module _ (s : Classes) (p q : Drawing) (l m : Labelling) (labels : AreLabels s p l) (labels' : AreLabels s q m) (one : arranged s l p ≡ arranged s m q) (f : NumberedRecords) (first : IsNumbered p l f) where
+module _ (s : Classes) (p q : PlanData) (l m : Labelling) (labels : AreLabels s p l) (labels' : AreLabels s q m) (one : arranged s l p ≡ arranged s m q) (f : NumberedRecords) (first : IsNumbered p l f) where
   number_fits : (k : ℕ) → IsPlace p k → number_of l k - 1 < length (order_of m (record_at p k).kind)
   number_fits k h =
       omega (arith, slice_get_within (order_of l (record_at p k).kind) (number_of l k - 1) k (labels.to_count k h), one_count s p q l m labels labels' one (record_at p k).kind)
 
-  pub has_namesakes : HasNamesakes f m
-  has_namesakes = have_namesakes s p q l m labels labels' f first (λ k h. omega (arith, number_fits k h, labels.from_one k h))
+  pub has_counterparts : HasCounterparts f m
+  has_counterparts = have_counterparts s p q l m labels labels' f first (λ k h. omega (arith, number_fits k h, labels.from_one k h))
 
-  -- the namesake of a record, by the labels of its plan
+  -- the counterpart of a record, by the labels of its plan
   other : ℕ → ℕ
   other i = slice_index (order_of m (record_at p i).kind) (number_of l i - 1)
 
-  namesake_is : (i : ℕ) → IsPlace p i → namesake f m i ≡ other i
+  counterpart_is : (i : ℕ) → IsPlace p i → counterpart f m i ≡ other i
   unfolding other
-  namesake_is i h = ap₂ (λ kind n. slice_index (order_of m kind) (n - 1)) (first.kinds i h) (number_is s p q l m labels labels' f first i)
+  counterpart_is i h = ap₂ (λ kind n. slice_index (order_of m kind) (n - 1)) (first.kinds i h) (number_is s p q l m labels labels' f first i)
 
   -- it is there, and goes where the record goes
   other_there : (i : ℕ) → IsPlace p i → IsPlace q (other i)
@@ -83,13 +83,13 @@ module _ (s : Classes) (p q : Drawing) (l m : Labelling) (labels : AreLabels s p
 
   module _ (pairing : Pairing) (by : PairsByNumber f m pairing) where
     goes_to : (i : ℕ) → IsPlace p i → slice_index pairing.to i ≡ other i
-    goes_to i h = by.to i (subst (λ n. i < n) (sym first.long) h) ∙ namesake_is i h
+    goes_to i h = by.to i (subst (λ n. i < n) (sym first.long) h) ∙ counterpart_is i h
 
     turns : (i : ℕ) → IsPlace p i → turned_at pairing.turned i ≡ differ (turned_at l.turned i) (turned_at m.turned (slice_index pairing.to i))
     turns i h =
         let there = subst (λ n. i < n) (sym first.long) h in
         by.turned i there
-        ∙ (known_differ (turned_at f.turned i) (turned_at m.turned (namesake f m i))
+        ∙ (known_differ (turned_at f.turned i) (turned_at m.turned (counterpart f m i))
         ∙ ap₂ differ (turned_is s p q l m labels labels' f first i) (ap (turned_at m.turned) (sym (by.to i there))))
 
     pub pairing_carries : IsPlanUnder s p → IsPlanUnder s q → PairingCarries s p q pairing
@@ -98,7 +98,7 @@ module _ (s : Classes) (p q : Drawing) (l m : Labelling) (labels : AreLabels s p
       all_directed = by.all_directed ∙ first.long;
       carries = carries_between s p q (arranged s l p) under under' (under_arranged s p l under labels) (new_place l p) (new_place m q) (turned_at l.turned) (turned_at m.turned)
           (carries_arranged s p l labels)
-          (subst (λ (r : Drawing). Carries s (new_place m q) (turned_at m.turned) q r) (sym one) (carries_arranged s q m labels'))
+          (subst (λ (r : PlanData). Carries s (new_place m q) (turned_at m.turned) q r) (sym one) (carries_arranged s q m labels'))
           (slice_index pairing.to) (turned_at pairing.turned)
           (λ i h. subst (IsPlace q) (sym (goes_to i h)) (other_there i h))
           (λ i h. ap (new_place m q) (goes_to i h) ∙ other_goes i h)

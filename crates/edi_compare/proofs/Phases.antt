@@ -1,6 +1,6 @@
 -- The rules of a sheet, phase by phase: the least of the first broken phase is the least of all.
 use Rattle.std.proofs.Common.{◌≡◌, ◌∙◌, subst, ℕ, ◌<◌, ◌≤◌, ◌⊎◌, inl, inr, List, [], ◌∷◌, ◌++◌, map, Err, arith}
-use Rattle.edi_line.specs.Entry.{Entry}
+use Rattle.edi_line.specs.ZoneData.{ZoneData}
 use Rattle.edi_line.specs.LineRules.{BreaksIn, BreaksLineRule, line_tests, IsZonesOf}
 use Rattle.edi_line.specs.Refusal.{IsUnbroken, IsLeastBroken, BreaksTest}
 use Rattle.edi_line.specs.Spelling.{Reading}
@@ -15,7 +15,7 @@ use Rattle.edi_record.specs.RecordRules.BreaksGroupRule.{lacks_kind, lacks_ident
 use Rattle.edi_record.specs.declared.record.Record.{Record}
 use Rattle.edi_record.specs.declared.sheet.Sheet.{Sheet}
 use Rattle.edi_schema.specs.Classes.{Classes}
-use Rattle.edi_plan.specs.Plans.{Drawing}
+use Rattle.edi_plan.specs.Plans.{PlanData}
 use Rattle.edi_plan.specs.ReferenceRules.{BreaksReferenceRule}
 use Rattle.edi_plan.specs.ReferenceRules.BreaksReferenceRule.{repeats_name, lacks_class, lacks_attribute_class, leaves_subset, names_nothing, joins_wrong, repeats_side}
 use Rattle.edi_plan.proofs.Built.{one_plan_of}
@@ -57,7 +57,7 @@ line_rule_below b rule place broken = go (rule_read b rule place broken)
     go (inl h) = let c = mapped reading_of (contents_of b) h.before h.line h.after h.cut in here_below c.0 h.before h.line rule c.1 h.breaks
     go (inr h) = omega (arith, h.rule_is)
 
-pub group_above : (group : List Entry) (rule : ℕ) → BreaksGroupRule group rule → 200 ≤ rule
+pub group_above : (group : List ZoneData) (rule : ℕ) → BreaksGroupRule group rule → 200 ≤ rule
 group_above group rule (lacks_kind e h) = omega (arith, e)
 group_above group rule (lacks_identifier e h) = omega (arith, e)
 group_above group rule (lacks_record_class e h) = omega (arith, e)
@@ -76,10 +76,10 @@ reference_above s list rule place (names_nothing e h) = omega (arith, e)
 reference_above s list rule place (joins_wrong e h) = omega (arith, e)
 reference_above s list rule place (repeats_side e h) = omega (arith, e)
 
-pub object_above : (p : Drawing) (rule place : ℕ) → BreaksObjectRule p rule place → 200 ≤ rule
+pub object_above : (p : PlanData) (rule place : ℕ) → BreaksObjectRule p rule place → 200 ≤ rule
 object_above p rule place (repeats_object e at less h) = omega (arith, e)
 
-pub topology_above : (p : Drawing) (rule place : ℕ) → BreaksTopologyRule p rule place → 200 ≤ rule
+pub topology_above : (p : PlanData) (rule place : ℕ) → BreaksTopologyRule p rule place → 200 ≤ rule
 topology_above p rule place (starts_elsewhere e h) = omega (arith, e)
 topology_above p rule place (ends_elsewhere e h) = omega (arith, e)
 topology_above p rule place (repeats_node e h) = omega (arith, e)
@@ -92,7 +92,7 @@ topology_above p rule place (bounds_nothing e h) = omega (arith, e)
 one_list : (b : List ℕ) (sheet other : Sheet) → IsSheetOf b sheet → IsSheetOf b other → sheet.list ≡ other.list
 one_list b sheet other h g = (reading_is_one.sheets b sheet other h g).1
 
-pub one_plan : (s : Classes) (b : List ℕ) (p q : Drawing) → IsPlanOfFile s b p → IsPlanOfFile s b q → p ≡ q
+pub one_plan : (s : Classes) (b : List ℕ) (p q : PlanData) → IsPlanOfFile s b p → IsPlanOfFile s b q → p ≡ q
 one_plan s b p q h g = let e = reading_is_one.sheets b h.0 g.0 h.1 g.1 in one_plan_of s h.0 g.0 p q e.0 e.1 h.2 g.2
 
 -- ---- the least of a phase is the least of all
@@ -110,7 +110,7 @@ module _ (s : Classes) (b : List ℕ) where
     pub line_refusal : IsLeastBroken (BreaksLineRule b) rule at → (rule < 200) × IsLeastBroken (Breaks s b) rule at
     line_refusal h = (line_rule_below b rule at h.is, record { is = of_lines h.is; least = after_lines h.is h.least })
 
-    module _ (lines : LinesHold s b) (zones : List Entry) (are : IsZonesOf b zones) where
+    module _ (lines : LinesHold s b) (zones : List ZoneData) (are : IsZonesOf b zones) where
       after_records : BreaksRecordRule zones rule at → ((r p : ℕ) → BreaksRecordRule zones r p → (at < p) ⊎ ((at ≡ p) × (rule ≤ r)))
           → (r p : ℕ) → Breaks s b r p → (at < p) ⊎ ((at ≡ p) × (rule ≤ r))
       after_records is least r p (of_lines g) = absurd (lines r p g)
@@ -134,7 +134,7 @@ module _ (s : Classes) (b : List ℕ) where
       pub reference_refusal : IsLeastBroken (BreaksReferenceRule s sheet.list) rule at → (200 ≤ rule) × IsLeastBroken (Breaks s b) rule at
       reference_refusal h = (reference_above s sheet.list rule at h.is, record { is = of_references sheet records states h.is; least = after_references h.is h.least })
 
-    module _ (references : ReferencesHold s b) (plan : Drawing) (states : IsPlanOfFile s b plan) where
+    module _ (references : ReferencesHold s b) (plan : PlanData) (states : IsPlanOfFile s b plan) where
       after_topology : BreaksTopologyRule plan rule at → ((r p : ℕ) → BreaksTopologyRule plan r p → (at < p) ⊎ ((at ≡ p) × (rule ≤ r)))
           → (r p : ℕ) → Breaks s b r p → (at < p) ⊎ ((at ≡ p) × (rule ≤ r))
       after_topology is least r p (of_lines g) = absurd (references.0.0 r p g)
@@ -146,7 +146,7 @@ module _ (s : Classes) (b : List ℕ) where
       pub topology_refusal : IsLeastBroken (BreaksTopologyRule plan) rule at → (200 ≤ rule) × IsLeastBroken (Breaks s b) rule at
       topology_refusal h = (topology_above plan rule at h.is, record { is = of_topology plan references states h.is; least = after_topology h.is h.least })
 
-    module _ (topology : TopologyHolds s b) (plan : Drawing) (states : IsPlanOfFile s b plan) where
+    module _ (topology : TopologyHolds s b) (plan : PlanData) (states : IsPlanOfFile s b plan) where
       after_objects : ((r p : ℕ) → BreaksObjectRule plan r p → (at < p) ⊎ ((at ≡ p) × (rule ≤ r)))
           → (r p : ℕ) → Breaks s b r p → (at < p) ⊎ ((at ≡ p) × (rule ≤ r))
       after_objects least r p (of_lines g) = absurd (topology.0.0.0 r p g)
@@ -160,16 +160,16 @@ module _ (s : Classes) (b : List ℕ) where
 
   -- ---- the phases hold
 
-  pub records_held : LinesHold s b → (zones : List Entry) → IsZonesOf b zones → IsUnbroken (BreaksRecordRule zones) → RecordsHold s b
+  pub records_held : LinesHold s b → (zones : List ZoneData) → IsZonesOf b zones → IsUnbroken (BreaksRecordRule zones) → RecordsHold s b
   records_held lines zones are none = (lines, λ others z. subst (λ zs. IsUnbroken (BreaksRecordRule zs)) (zones_of_one b zones others are z) none)
 
   pub references_held : RecordsHold s b → (sheet : Sheet) → IsSheetOf b sheet → IsUnbroken (BreaksReferenceRule s sheet.list) → ReferencesHold s b
   references_held records sheet states none = (records, λ other z. subst (λ list. IsUnbroken (BreaksReferenceRule s list)) (one_list b sheet other states z) none)
 
-  pub topology_held : ReferencesHold s b → (plan : Drawing) → IsPlanOfFile s b plan → IsUnbroken (BreaksTopologyRule plan) → TopologyHolds s b
+  pub topology_held : ReferencesHold s b → (plan : PlanData) → IsPlanOfFile s b plan → IsUnbroken (BreaksTopologyRule plan) → TopologyHolds s b
   topology_held references plan states none = (references, λ other z. subst (λ q. IsUnbroken (BreaksTopologyRule q)) (one_plan s b plan other states z) none)
 
-  pub all_held : TopologyHolds s b → (plan : Drawing) → IsPlanOfFile s b plan → IsUnbroken (BreaksObjectRule plan) → IsAccepted s b
+  pub all_held : TopologyHolds s b → (plan : PlanData) → IsPlanOfFile s b plan → IsUnbroken (BreaksObjectRule plan) → IsAccepted s b
   all_held held plan states none r p (of_lines g) = held.0.0.0 r p g
   all_held held plan states none r p (of_records others _ z g) = held.0.0.1 others z r p g
   all_held held plan states none r p (of_references other _ z g) = held.0.1 other z r p g

@@ -1,7 +1,7 @@
 -- The faults of the phases are refusals of the sheet.
 use Rattle.std.proofs.Common.{◌≡◌, sym, subst, ℕ, List, Result, Ok, Err}
 use Rattle.std.specs.Result.{IsErrAnd, IfErr}
-use Rattle.edi_line.specs.Entry.{Entry}
+use Rattle.edi_line.specs.ZoneData.{ZoneData}
 use Rattle.edi_line.specs.LineRules.{BreaksLineRule, IsZonesOf}
 use Rattle.edi_line.specs.Refusal.{IsLineRefusal}
 use Rattle.edi_line.specs.declared.fault.LineFault.{LineFault}
@@ -14,7 +14,7 @@ use Rattle.edi_record.specs.declared.fault.RecordFault.TheVariants as record_
 use Rattle.edi_record.specs.declared.fault.SheetFault.{SheetFault}
 use Rattle.edi_record.specs.declared.fault.SheetFault.TheVariants as file
 use Rattle.edi_schema.specs.Classes.{Classes}
-use Rattle.edi_plan.specs.Plans.{Drawing}
+use Rattle.edi_plan.specs.Plans.{PlanData}
 use Rattle.edi_plan.specs.ReferenceRules.{BreaksReferenceRule}
 use Rattle.edi_topo.specs.TopologyRules.{BreaksTopologyRule}
 use Rattle.edi_rank.specs.EqualObjects.{BreaksObjectRule}
@@ -36,7 +36,7 @@ module _ (s : Classes) (b : List ℕ) where
   line_fault (line.Memory e) h = tt
   line_fault (line.Broken rule at) h = line_refusal s b rule at h
 
-  pub record_fault : LinesHold s b → (zones : List Entry) → IsZonesOf b zones → (f : RecordFault) → IsRecordRefusal (BreaksRecordRule zones) f → IsRefusal s b (of_record f)
+  pub record_fault : LinesHold s b → (zones : List ZoneData) → IsZonesOf b zones → (f : RecordFault) → IsRecordRefusal (BreaksRecordRule zones) f → IsRefusal s b (of_record f)
   record_fault lines zones are (record_.Memory e) h = tt
   record_fault lines zones are (record_.Broken rule at) h = record_refusal s b rule at lines zones are h
 
@@ -48,11 +48,11 @@ module _ (s : Classes) (b : List ℕ) where
   reference_fault records sheet states (record_.Memory e) h = tt
   reference_fault records sheet states (record_.Broken rule at) h = reference_refusal s b rule at records sheet states h
 
-  pub topology_fault : ReferencesHold s b → (plan : Drawing) → IsPlanOfFile s b plan → (f : RecordFault) → IsRecordRefusal (BreaksTopologyRule plan) f → IsRefusal s b (of_record f)
+  pub topology_fault : ReferencesHold s b → (plan : PlanData) → IsPlanOfFile s b plan → (f : RecordFault) → IsRecordRefusal (BreaksTopologyRule plan) f → IsRefusal s b (of_record f)
   topology_fault references plan states (record_.Memory e) h = tt
   topology_fault references plan states (record_.Broken rule at) h = topology_refusal s b rule at references plan states h
 
-  pub rank_fault : TopologyHolds s b → (plan : Drawing) → IsPlanOfFile s b plan → (f : RecordFault) → IsRecordRefusal (BreaksObjectRule plan) f → IsRefusal s b (of_record f)
+  pub rank_fault : TopologyHolds s b → (plan : PlanData) → IsPlanOfFile s b plan → (f : RecordFault) → IsRecordRefusal (BreaksObjectRule plan) f → IsRefusal s b (of_record f)
   rank_fault topology plan states (record_.Memory e) h = tt
   rank_fault topology plan states (record_.Broken rule at) h = object_refusal s b rule at topology plan states h
 

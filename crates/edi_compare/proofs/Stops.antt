@@ -2,7 +2,7 @@
 use Rattle.std.proofs.Common.{◌≡◌, ◌≢◌, ℕ, ◌<◌, ◌≤◌, ◌⊎◌, inl, inr, Bool, true, false, true≢false, List, length, slice_index, get_or, refl, sym, ap, ◌∙◌, arith, Option, Some, None, MatchOption, Result, Ok, Err, IfOk}
 use Rattle.std.proofs.lemmas.Bool.{cases_lt}
 use Rattle.edi_schema.specs.Classes.{Classes}
-use Rattle.edi_plan.specs.Plans.{Drawing, IsPlace}
+use Rattle.edi_plan.specs.Plans.{PlanData, IsPlace}
 use Rattle.edi_compare.specs.Pairings.{PairingCarries}
 use Rattle.edi_compare.specs.Uncarried.{HasEntries}
 use Rattle.edi_compare.specs.declared.pairing.Pairing.{Pairing}
@@ -29,7 +29,7 @@ module _ (m : Matching) (marks : List Bool) (are : AreMarked (slice_index m.to) 
 
 -- ---- what is found, of the pairing
 
-module _ (s : Classes) (p q : Drawing) (pairing : Pairing) where
+module _ (s : Classes) (p q : PlanData) (pairing : Pairing) where
   abbrev pub matching_of : Matching
   matching_of = record { classes = s; plan = p; other = q; to = pairing.to; turned = pairing.turned }
 

@@ -9,7 +9,7 @@ use Rattle.edi_schema.specs.declared.role.Role.{Role}
 use Rattle.edi_schema.specs.declared.role.Role.TheVariants.{Plain, Initial, Final, Left, Right}
 use Rattle.edi_schema.specs.declared.class.Class.{Class}
 use Rattle.edi_schema.specs.Classes.{Classes}
-use Rattle.edi_plan.specs.Plans.{Drawing}
+use Rattle.edi_plan.specs.Plans.{PlanData}
 use Rattle.edi_plan.specs.declared.record.PlanRecord.{PlanRecord}
 use Rattle.edi_compare.specs.declared.pairing.Pairing.{Pairing}
 
@@ -23,7 +23,7 @@ abbrev pub node_sheet : List ℕ
 node_sheet = one_node []
 
 -- the plan that it states
-abbrev pub node_plan : Drawing
+abbrev pub node_plan : PlanData
 node_plan = record {
   cse = Some (codes "IRV");
   list =
@@ -152,7 +152,7 @@ link class role a b =
     }
 
 -- where the links from the arc to f and to g are of these classes and roles
-abbrev pub arc_plan : ℕ → Role → ℕ → Role → Drawing
+abbrev pub arc_plan : ℕ → Role → ℕ → Role → PlanData
 arc_plan f_class f_role g_class g_role = record {
   cse = None;
   list =
@@ -162,13 +162,13 @@ arc_plan f_class f_role g_class g_role = record {
       ∷ link f_class f_role 2 3 ∷ link g_class g_role 2 4 ∷ link 8 Plain 5 3 ∷ link 8 Plain 4 0 ∷ [];
 }
 
-abbrev pub turned_arc_plan : Drawing
+abbrev pub turned_arc_plan : PlanData
 turned_arc_plan = arc_plan 6 Left 4 Right
 
-abbrev pub exchanged_plan : Drawing
+abbrev pub exchanged_plan : PlanData
 exchanged_plan = arc_plan 4 Right 6 Left
 
-abbrev pub reversed_arc_plan : Drawing
+abbrev pub reversed_arc_plan : PlanData
 reversed_arc_plan = record {
   cse = None;
   list =

@@ -6,7 +6,7 @@
 use Rattle.std.specs.Prelude.{◌≡◌, ◌≢◌, ℕ, ◌<◌, ◌≤◌, Bool, true, length, map, option_map, slice_index, IsPermutation}
 use Rattle.edi_record.specs.declared.record.Kind.TheVariants.{Par}
 use Rattle.edi_schema.specs.Classes.{Classes, partner_of}
-use Rattle.edi_plan.specs.Plans.{Drawing, IsPlace, record_at, origin_of, others_of}
+use Rattle.edi_plan.specs.Plans.{PlanData, IsPlace, record_at, origin_of, others_of}
 use Rattle.edi_plan.specs.declared.record.PlanRecord.{PlanRecord}
 use Rattle.edi_rank.specs.Labelling.{turned_at}
 use Rattle.edi_rank.specs.Same.{class_after, directed, moved}
@@ -49,7 +49,7 @@ module _ (s : Classes) (to : ℕ → ℕ) (turned : ℕ → Bool) (i : ℕ) (a b
 
 -- ---- two plans under a schema, where each record of the first goes, and which are turned
 
-module _ (s : Classes) (to : ℕ → ℕ) (turned : ℕ → Bool) (p q : Drawing) where
+module _ (s : Classes) (to : ℕ → ℕ) (turned : ℕ → Bool) (p q : PlanData) where
   -- the record at a place goes to a place of the second plan to which none before it goes, and is the record there
   pub record IsCarried (i : ℕ) : Type 0 where
     pub within : to i < length q.list
@@ -77,12 +77,12 @@ module _ (s : Classes) (to : ℕ → ℕ) (turned : ℕ → Bool) (p q : Drawing
     pub before : (l : ℕ) → l < j → (i : ℕ) × IsPlace p i × (to i ≡ l)
 
 -- the pairing has an entry for each record
-pub record HasEntries (p : Drawing) (pairing : Pairing) : Type 0 where
+pub record HasEntries (p : PlanData) (pairing : Pairing) : Type 0 where
   pub all_paired : length pairing.to ≡ length p.list
   pub all_directed : length pairing.turned ≡ length p.list
 
 -- Why the pairing doesn't carry.
-abbrev pub IsUncarriedBy : Classes → Drawing → Drawing → Pairing → Uncarried → Type 0
+abbrev pub IsUncarriedBy : Classes → PlanData → PlanData → Pairing → Uncarried → Type 0
 IsUncarriedBy s p q pairing Entries = ¬ (HasEntries p pairing)
 IsUncarriedBy s p q pairing CharacterSets = HasEntries p pairing × (q.cse ≢ p.cse)
 IsUncarriedBy s p q pairing (Record i why) =

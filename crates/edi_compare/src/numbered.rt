@@ -3,7 +3,7 @@
 ghost use Rattle.std.specs.Prelude.{◌≡◌, ◌<◌, ℕ, length, slice_index_or, IfOk};
 ghost use Rattle.edi_plan.specs.Plans.{IsPlace, record_at};
 ghost use Rattle.edi_record.specs.declared.record.Kind.TheVariants.{Pno};
-ghost use Rattle.edi_compare.specs.Namesakes.{HasNamesakes, IsNumbered, PairsByNumber, namesake};
+ghost use Rattle.edi_compare.specs.Counterparts.{HasCounterparts, IsNumbered, PairsByNumber, counterpart};
 
 use crate::pairing::Pairing;
 use edi_line::Sequence;
@@ -69,13 +69,13 @@ pub fn paired(
     first: &NumberedRecords,
     others: &Labels,
 ) -> Result<Pairing, AllocError>
-    requires { HasNamesakes first.now others.now }
+    requires { HasCounterparts first.now others.now }
     ensures { IfOk result (PairsByNumber first.now others.now) }
 {
     let mut to = Vec::with_capacity(alloc, first.kinds.len())?;
     let mut turned = Vec::with_capacity(alloc, first.kinds.len())?;
     for place in 0..first.kinds.len() {
-        let target = namesake(first, others, place);
+        let target = counterpart(first, others, place);
         to.push(target)?;
         turned.push(first.turned.as_slice()[place] != others.turned(target))?;
     }
@@ -86,11 +86,11 @@ pub fn paired(
 }
 
 /// The place of the record with the type and the number of the one at a place of the first sheet.
-fn namesake(first: &NumberedRecords, others: &Labels, place: usize) -> u32
+fn counterpart(first: &NumberedRecords, others: &Labels, place: usize) -> u32
     requires place { place < length first.now.kinds.items }
-    requires namesakes { HasNamesakes first.now others.now }
+    requires counterparts { HasCounterparts first.now others.now }
     ensures there { result < length others.now.turned }
-    ensures is { result ≡ namesake first.now others.now place }
+    ensures is { result ≡ counterpart first.now others.now place }
 {
     others.order(first.kinds[place])[first.numbers.as_slice()[place] as usize - 1]
 }

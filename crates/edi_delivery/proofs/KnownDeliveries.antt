@@ -1,7 +1,7 @@
 -- Known files against the definitions.
 use Rattle.std.proofs.Common.{◌≡◌, ℕ, ◌+◌, true, false, get_or, None, Some, List, [], ◌∷◌, ◌++◌, length, refl, sym, subst, inl, inr}
 use Rattle.std.proofs.lemmas.Bool.{both_ways}
-use Rattle.edi_line.specs.Entry.{Entry}
+use Rattle.edi_line.specs.ZoneData.{ZoneData}
 use Rattle.edi_line.specs.Feeding.{seen_in}
 use Rattle.edi_line.specs.Zones.{groups_of}
 use Rattle.edi_line.specs.inner.Refusal.{first_broken}
@@ -27,32 +27,32 @@ abbrev pub HasSoundLines : List ℕ → Type 0
 HasSoundLines bytes = first_fault (seen_in []) 1 (readings_of bytes) ≡ None
 
 -- the zones of a record, counted from 0
-abbrev pub record_of : List ℕ → ℕ → List Entry
+abbrev pub record_of : List ℕ → ℕ → List ZoneData
 record_of bytes n = get_or (groups_of (zones_of bytes)) n []
 
 -- a file with a support, which comes first
-module _ (bytes : List ℕ) (lines : HasSoundLines bytes) (s : List Entry) (support : is_support s ≡ true) where
+module _ (bytes : List ℕ) (lines : HasSoundLines bytes) (s : List ZoneData) (support : is_support s ≡ true) where
   after_support : IsTaken (s ∷ []) []
   after_support = support_taken [] s [] support none_taken
 
-  refused : (before : List (List Entry)) (lots : List Lot) (g : List Entry) (after : List (List Entry)) (rule : ℕ) → groups_of (zones_of bytes) ≡ before ++ g ∷ after → IsTaken before lots
+  refused : (before : List (List ZoneData)) (lots : List Lot) (g : List ZoneData) (after : List (List ZoneData)) (rule : ℕ) → groups_of (zones_of bytes) ≡ before ++ g ∷ after → IsTaken before lots
       → IsLeastHere before g rule → IsRefusedBy bytes rule (length before + 1)
   refused before lots g after rule groups taken least =
       (unbroken_as bytes lines, (zones_of bytes, zones_as bytes (zones_of bytes) lines refl, least_there (groups_of (zones_of bytes)) before after g lots rule (length before + 1) groups refl taken least))
 
-  pub known_unknown : (g : List Entry) (after : List (List Entry)) → groups_of (zones_of bytes) ≡ s ∷ g ∷ after → is_support g ≡ false → is_lot g ≡ false → IsRefusedBy bytes 701 2
+  pub known_unknown : (g : List ZoneData) (after : List (List ZoneData)) → groups_of (zones_of bytes) ≡ s ∷ g ∷ after → is_support g ≡ false → is_lot g ≡ false → IsRefusedBy bytes 701 2
   known_unknown g after groups no_support no_lot = refused (s ∷ []) [] g after 701 groups after_support (unknown_least (s ∷ []) g [] after_support no_support no_lot)
 
   -- the second record, a lot, breaks a rule by itself
-  pub known_own : (g : List Entry) (rule : ℕ) → groups_of (zones_of bytes) ≡ s ∷ g ∷ [] → is_lot g ≡ true → first_broken (lot_tests g) ≡ Some rule → IsRefusedBy bytes rule 2
+  pub known_own : (g : List ZoneData) (rule : ℕ) → groups_of (zones_of bytes) ≡ s ∷ g ∷ [] → is_lot g ≡ true → first_broken (lot_tests g) ≡ Some rule → IsRefusedBy bytes rule 2
   known_own g rule groups is broken = refused (s ∷ []) [] g [] rule groups after_support (own_least (s ∷ []) g [] after_support is rule broken)
 
   -- the second record, a lot, names a file twice
-  pub known_twice : (g : List Entry) (lot : Lot) → groups_of (zones_of bytes) ≡ s ∷ g ∷ [] → is_lot g ≡ true → StatesLot g lot → first_broken (lot_tests g) ≡ None
+  pub known_twice : (g : List ZoneData) (lot : Lot) → groups_of (zones_of bytes) ≡ s ∷ g ∷ [] → is_lot g ≡ true → StatesLot g lot → first_broken (lot_tests g) ≡ None
       → first_broken (take_tests [] lot) ≡ Some 710 → IsRefusedBy bytes 710 2
   known_twice g lot groups is states own broken = refused (s ∷ []) [] g [] 710 groups after_support (take_least (s ∷ []) g [] after_support is lot states own 710 broken)
 
-  module _ (g : List Entry) (lot : Lot) (is : is_lot g ≡ true) (states : StatesLot g lot) (own : first_broken (lot_tests g) ≡ None) (apart : first_broken (take_tests [] lot) ≡ None) where
+  module _ (g : List ZoneData) (lot : Lot) (is : is_lot g ≡ true) (states : StatesLot g lot) (own : first_broken (lot_tests g) ≡ None) (apart : first_broken (take_tests [] lot) ≡ None) where
     after_lot : IsTaken (s ∷ g ∷ []) (lot ∷ [])
     after_lot = lot_taken (s ∷ []) g [] after_support is lot states own (lot ∷ []) apart refl
 
@@ -71,7 +71,7 @@ module _ (bytes : List ℕ) (lines : HasSoundLines bytes) (s : List Entry) (supp
         sound rule place (inr b) = both_ways _ b.lacks (some_lot (s ∷ g ∷ []) lot [] after_lot.states)
 
     -- the third record, a lot, has a name or a file of the second
-    pub known_again : (h : List Entry) (other : Lot) (rule : ℕ) → groups_of (zones_of bytes) ≡ s ∷ g ∷ h ∷ [] → is_lot h ≡ true → StatesLot h other → first_broken (lot_tests h) ≡ None
+    pub known_again : (h : List ZoneData) (other : Lot) (rule : ℕ) → groups_of (zones_of bytes) ≡ s ∷ g ∷ h ∷ [] → is_lot h ≡ true → StatesLot h other → first_broken (lot_tests h) ≡ None
         → first_broken (take_tests (lot ∷ []) other) ≡ Some rule → IsRefusedBy bytes rule 3
     known_again h other rule groups second said sound broken = refused (s ∷ g ∷ []) (lot ∷ []) h [] rule groups after_lot (take_least (s ∷ g ∷ []) h (lot ∷ []) after_lot second other said sound rule broken)
 

@@ -5,7 +5,7 @@ use Rattle.std.specs.Str.{all_ascii_digits}
 use Rattle.std.specs.Str.Parse.{digits_value}
 use Rattle.std.proofs.lemmas.Bool.{both_ways, leb-true, le-leb, eqb-true}
 use Rattle.std.proofs.lemmas.List.Folds.{Any-from_list_any, list_any-from_Any}
-use Rattle.edi_line.specs.Entry.{Entry}
+use Rattle.edi_line.specs.ZoneData.{ZoneData}
 use Rattle.edi_line.specs.Refusal.{BreaksTest}
 use Rattle.edi_line.proofs.NumberRead.{digits_test, test_digits}
 use Rattle.edi_record.specs.Records.{values}
@@ -58,7 +58,7 @@ unsafe_said texts e = let a = Any-from_list_any is_unsafe texts e in (a.0, a.1, 
 unsafe_test : (texts : List (List ℕ)) → Any (λ text. is_name_part text ≡ false) texts → list_any is_unsafe texts ≡ true
 unsafe_test texts a = list_any-from_Any is_unsafe texts (a.0, a.1, a.2, a.3, ap not a.4)
 
-module _ (before : List (List Entry)) (group : List Entry) where
+module _ (before : List (List ZoneData)) (group : List ZoneData) where
   files_said : has_unsafe_file group ≡ true → Any (HasUnsafe before group) file_codes
   files_said e = let a = Any-from_list_any (λ code. list_any is_unsafe (values code group)) file_codes e in (a.0, a.1, a.2, a.3, unsafe_said (values a.1 group) a.4)
 
@@ -83,7 +83,7 @@ wrong_test counts vecs h = or_right _ _ (go (counts_right counts (length vecs)) 
 
 -- ---- earlier lots
 
-pub lot_one : (group : List Entry) (l m : Lot) → StatesLot group l → StatesLot group m → l ≡ m
+pub lot_one : (group : List ZoneData) (l m : Lot) → StatesLot group l → StatesLot group m → l ≡ m
 lot_one group l m h k = λ j. record {
   name = heads _ _ (sym h.name ∙ k.name) j;
   scd = heads _ _ (sym h.scd ∙ k.scd) j;
@@ -117,10 +117,10 @@ no_any : {X : Type 0} (P : X → Type 0) → Any P [] → ⊥
 no_any P a = omega (arith, a.2)
 
 -- what an earlier record says of its lot
-abbrev pub Says : (Lot → Type 0) → List Entry → Type 0
+abbrev pub Says : (Lot → Type 0) → List ZoneData → Type 0
 Says P g = (lot : Lot) × (is_lot g ≡ true) × StatesLot g lot × P lot
 
-pub lots_from : (P : Lot → Type 0) (groups : List (List Entry)) (lots : List Lot) → StatesLots groups lots → Any (Says P) groups → Any P lots
+pub lots_from : (P : Lot → Type 0) (groups : List (List ZoneData)) (lots : List Lot) → StatesLots groups lots → Any (Says P) groups → Any P lots
 lots_from P [] lots h a = absurd (no_any (Says P) a)
 lots_from P (g ∷ gs) lots h a = go (is_lot g) refl lots h (by_any (Says P) g gs a) (lots_from P gs)
   where
@@ -132,7 +132,7 @@ lots_from P (g ∷ gs) lots h a = go (is_lot g) refl lots h (by_any (Says P) g g
     go false e lots h (inl says) more = absurd (both_ways _ e says.1)
     go false e lots h (inr a) more = more lots h a
 
-pub groups_from : (P : Lot → Type 0) (groups : List (List Entry)) (lots : List Lot) → StatesLots groups lots → Any P lots → Any (Says P) groups
+pub groups_from : (P : Lot → Type 0) (groups : List (List ZoneData)) (lots : List Lot) → StatesLots groups lots → Any P lots → Any (Says P) groups
 groups_from P [] [] h a = absurd (no_any P a)
 groups_from P [] (l ∷ ls) h a = absurd h
 groups_from P (g ∷ gs) lots h a = go (is_lot g) refl lots h a (groups_from P gs)
@@ -159,7 +159,7 @@ shares_test one other a =
     list_any-from_Any (λ file. list_any (λ again. is_same_name again file) (files_of other)) (files_of one)
     (a.0, a.1, a.2, a.3, list_any-from_Any (λ again. is_same_name again a.1) (files_of other) a.4)
 
-module _ (before : List (List Entry)) (lots : List Lot) (states : StatesLots before lots) (group : List Entry) where
+module _ (before : List (List ZoneData)) (lots : List Lot) (states : StatesLots before lots) (group : List ZoneData) where
   -- ---- what the tests find is a broken rule
 
   pub lot_rule : (rule : ℕ) → BreaksTest (lot_tests group) rule → BreaksLotRule before group rule

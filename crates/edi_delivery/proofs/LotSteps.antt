@@ -3,7 +3,7 @@ use Rattle.std.proofs.Common.{Result, Ok, Err, IfErr, cond, ◌≡◌, ℕ, zero
 use Rattle.std.proofs.Common.{Bor}
 use Rattle.std.specs.List.{list_any}
 use Rattle.std.proofs.lemmas.List.Folds.{list_any-append}
-use Rattle.edi_line.specs.Entry.{Entry}
+use Rattle.edi_line.specs.ZoneData.{ZoneData}
 use Rattle.edi_line.specs.Refusal.{Test, test}
 use Rattle.edi_line.specs.inner.Refusal.{first_broken}
 use Rattle.edi_record.specs.Records.{values}
@@ -66,7 +66,7 @@ or_false true = refl
 or_false false = refl
 
 -- the own names of a record's files are those of its draft
-pub same_unsafe : (group : List Entry) (d : LotDraft) → IsDraftOf group d → has_unsafe_file group ≡ list_any is_unsafe (own_names d)
+pub same_unsafe : (group : List ZoneData) (d : LotDraft) → IsDraftOf group d → has_unsafe_file group ≡ list_any is_unsafe (own_names d)
 same_unsafe group d h =
     rw (h.scd, h.dic, h.general, h.geo, h.quality, h.vecs)
     (simp (list_any-append {X = List ℕ}, or_false) refl)
@@ -92,7 +92,7 @@ first_some (u ∷ us) t rule e = go u.is_broken (first_some us t rule) e
     go false more e = more e
 
 -- a lot whose files aren't all named breaks 708
-pub least_708 : (group : List Entry) (text : List ℕ) (d : LotDraft) (rule : ℕ) → rule ≡ 708 → values (codes "LON") group ≡ text ∷ [] → is_unsafe text ≡ false → IsDraftOf group d
+pub least_708 : (group : List ZoneData) (text : List ℕ) (d : LotDraft) (rule : ℕ) → rule ≡ 708 → values (codes "LON") group ≡ text ∷ [] → is_unsafe text ≡ false → IsDraftOf group d
     → first_broken (draft_tests group) ≡ None → list_any is_unsafe (own_names d) ≡ true → first_broken (lot_tests group) ≡ Some rule
 least_708 group text d rule is named safe draft sound not_safe =
     let unsafe : has_unsafe_file group ≡ true = same_unsafe group d draft ∙ not_safe in

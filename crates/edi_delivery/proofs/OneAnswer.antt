@@ -1,7 +1,7 @@
 -- A file has one answer.
 use Rattle.std.proofs.Common.{◌≡◌, ◌⊎◌, inl, inr, ℕ, ◌<◌, ◌≤◌, List, [], ◌∷◌, filter, refl, ap, ◌∙◌, subst, arith}
 use Rattle.std.specs.List.{AllZip}
-use Rattle.edi_line.specs.Entry.{Entry}
+use Rattle.edi_line.specs.ZoneData.{ZoneData}
 use Rattle.edi_line.specs.Refusal.{IsLeastBroken}
 use Rattle.edi_line.specs.Zones.{groups_of}
 use Rattle.edi_line.specs.declared.fault.LineFault.TheVariants as line
@@ -16,7 +16,7 @@ use Rattle.edi_delivery.specs.declared.fault.DeliveryFault.TheVariants.{Line, Re
 use Rattle.edi_delivery.specs.declared.lot.Lot.{Lot}
 use Rattle.edi_delivery.proofs.LotRules.{lot_one}
 
-lots_one : (gs : List (List Entry)) (ls ms : List Lot) → AllZip StatesLot gs ls → AllZip StatesLot gs ms → ls ≡ ms
+lots_one : (gs : List (List ZoneData)) (ls ms : List Lot) → AllZip StatesLot gs ls → AllZip StatesLot gs ms → ls ≡ ms
 lots_one [] [] [] h k = refl
 lots_one [] [] (m ∷ ms) h k = absurd k
 lots_one [] (l ∷ ls) ms h k = absurd h

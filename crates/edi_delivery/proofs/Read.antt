@@ -6,7 +6,7 @@ use Rattle.std.proofs.lemmas.Bool.{both_ways}
 use Rattle.std.proofs.lemmas.Slice.Eq.{bytes_eq-Decides}
 use Rattle.std.proofs.lemmas.List.{append-nil, append_assoc, take_all, length-append}
 use Rattle.std.proofs.lemmas.List.Elements.{filter-append}
-use Rattle.edi_line.specs.Entry.{Entry, first, entry, entries}
+use Rattle.edi_line.specs.ZoneData.{ZoneData, first, entry, entries}
 use Rattle.edi_line.specs.Refusal.{BreaksTest, IsUnbroken, IsLeastBroken}
 use Rattle.edi_line.specs.Zones.{begins_group, before_end, groups_of}
 use Rattle.edi_line.specs.declared.zone.Zone.{Zone}
@@ -32,23 +32,23 @@ use Rattle.edi_delivery.proofs.LotRules.Repeats.{name, file}
 
 -- ---- one record more
 
-pub push_states : (before : List (List Entry)) (group : List Entry) (lots : List Lot) (lot : Lot) → is_lot group ≡ true → StatesLots before lots → StatesLot group lot → StatesLots (before ++ group ∷ []) (lots ++ lot ∷ [])
+pub push_states : (before : List (List ZoneData)) (group : List ZoneData) (lots : List Lot) (lot : Lot) → is_lot group ≡ true → StatesLots before lots → StatesLot group lot → StatesLots (before ++ group ∷ []) (lots ++ lot ∷ [])
 push_states before group lots lot e h k =
     let more : filter is_lot (before ++ group ∷ []) ≡ filter is_lot before ++ group ∷ [] = filter-append is_lot before (group ∷ []) ∙ ap (λ t. filter is_lot before ++ t) (rw e refl) in
     subst (λ gs. AllZip StatesLot gs (lots ++ lot ∷ [])) (sym more) (push (filter is_lot before) lots h)
   where
-    push : (gs : List (List Entry)) (ls : List Lot) → AllZip StatesLot gs ls → AllZip StatesLot (gs ++ group ∷ []) (ls ++ lot ∷ [])
+    push : (gs : List (List ZoneData)) (ls : List Lot) → AllZip StatesLot gs ls → AllZip StatesLot (gs ++ group ∷ []) (ls ++ lot ∷ [])
     push [] [] h = (k, tt)
     push [] (l ∷ ls) h = absurd h
     push (g ∷ gs) [] h = absurd h
     push (g ∷ gs) (l ∷ ls) h = (h.0, push gs ls h.1)
 
-same_states : (before : List (List Entry)) (group : List Entry) (lots : List Lot) → is_lot group ≡ false → StatesLots before lots → StatesLots (before ++ group ∷ []) lots
+same_states : (before : List (List ZoneData)) (group : List ZoneData) (lots : List Lot) → is_lot group ≡ false → StatesLots before lots → StatesLots (before ++ group ∷ []) lots
 same_states before group lots e h =
     let same : filter is_lot (before ++ group ∷ []) ≡ filter is_lot before = filter-append is_lot before (group ∷ []) ∙ (ap (λ t. filter is_lot before ++ t) (rw e refl) ∙ append-nil (filter is_lot before)) in
     subst (λ gs. AllZip StatesLot gs lots) (sym same) h
 
-push_sound : (before : List (List Entry)) (group : List Entry) → ((rule place : ℕ) → ¬ (BreaksRuleAt before rule place)) → ((rule : ℕ) → ¬ (BreaksBehind before group rule))
+push_sound : (before : List (List ZoneData)) (group : List ZoneData) → ((rule place : ℕ) → ¬ (BreaksRuleAt before rule place)) → ((rule : ℕ) → ¬ (BreaksBehind before group rule))
     → (rule place : ℕ) → ¬ (BreaksRuleAt (before ++ group ∷ []) rule place)
 push_sound before group sound here rule place b = go (two_cuts before group [] b.before b.group b.after b.cut)
   where
@@ -61,12 +61,12 @@ push_sound before group sound here rule place b = go (two_cuts before group [] b
         let right = length-append b.before (b.group ∷ b.after) in
         omega (arith, one, left, right, short)
 
-no_support : (group : List Entry) → is_support group ≡ true → is_lot group ≡ false
+no_support : (group : List ZoneData) → is_support group ≡ true → is_lot group ≡ false
 no_support group e =
     let same : unwrap_or (first (values (codes "RTY") group)) [] ≡ codes "GTS" = (bytes_eq-Decides (unwrap_or (first (values (codes "RTY") group)) []) (codes "GTS")).0 e in
     ap (λ t. bytes_eq t (codes "GTL")) same
 
-pub support_taken : (before : List (List Entry)) (group : List Entry) (lots : List Lot) → is_support group ≡ true → IsTaken before lots → IsTaken (before ++ group ∷ []) lots
+pub support_taken : (before : List (List ZoneData)) (group : List ZoneData) (lots : List Lot) → is_support group ≡ true → IsTaken before lots → IsTaken (before ++ group ∷ []) lots
 support_taken before group lots e h = record {
   states = same_states before group lots (no_support group e) h.states;
   sound = push_sound before group h.sound here;
@@ -76,7 +76,7 @@ support_taken before group lots e h = record {
     here rule (unknown is support lot) = both_ways _ support e
     here rule (of_lot lot b) = both_ways _ (no_support group e) lot
 
-module _ (before : List (List Entry)) (group : List Entry) (lots : List Lot) (h : IsTaken before lots) where
+module _ (before : List (List ZoneData)) (group : List ZoneData) (lots : List Lot) (h : IsTaken before lots) where
   pub unknown_least : is_support group ≡ false → is_lot group ≡ false → IsLeastHere before group 701
   unknown_least support lot = record { breaks = unknown refl support lot; least = least }
     where
@@ -132,13 +132,13 @@ module _ (before : List (List Entry)) (group : List Entry) (lots : List Lot) (h 
 -- ---- the records of a file
 
 -- so many records have been read, which state these lots
-pub record SoFar (zones rest : List Entry) (at : ℕ) (lots : List Lot) : Type 0 where
-  pub done : List (List Entry)
+pub record SoFar (zones rest : List ZoneData) (at : ℕ) (lots : List Lot) : Type 0 where
+  pub done : List (List ZoneData)
   pub cut : groups_of zones ≡ done ++ groups_of rest
   pub counted : at ≡ length done
   pub taken : IsTaken done lots
 
-pub none_read : (zones : List Entry) (lots : List Lot) → lots ≡ [] → SoFar zones zones 0 lots
+pub none_read : (zones : List ZoneData) (lots : List Lot) → lots ≡ [] → SoFar zones zones 0 lots
 none_read zones lots none = record {
   done = [];
   cut = refl;
@@ -149,7 +149,7 @@ none_read zones lots none = record {
 abbrev behind : List Zone → List Zone
 behind rest = take (length rest - 1) (drop 1 rest)
 
-group_found : (rest : List Zone) (g : List Entry) → Some g ≡ group_at (entries rest) → groups_of (entries rest) ≡ g ∷ groups_of (entries (behind rest))
+group_found : (rest : List Zone) (g : List ZoneData) → Some g ≡ group_at (entries rest) → groups_of (entries rest) ≡ g ∷ groups_of (entries (behind rest))
 group_found [] g e = absurd cc
 group_found (z ∷ zs) g e = go (begins_group (entry z)) refl e
   where
@@ -167,8 +167,8 @@ group_lacks (z ∷ zs) some e = go (begins_group (entry z)) refl e
     go true b e = absurd cc
     go false b e = rw (b, take_all (length (z ∷ zs) - 1) zs (omega arith)) refl
 
-pub one_read : (zones : List Entry) (rest : List Zone) (at : ℕ) (lots new : List Lot) (g : List Entry) → SoFar zones (entries rest) at lots → Some g ≡ group_at (entries rest)
-    → ((before : List (List Entry)) → IsTaken before lots → IsTaken (before ++ g ∷ []) new) → SoFar zones (entries (behind rest)) (at + 1) new
+pub one_read : (zones : List ZoneData) (rest : List Zone) (at : ℕ) (lots new : List Lot) (g : List ZoneData) → SoFar zones (entries rest) at lots → Some g ≡ group_at (entries rest)
+    → ((before : List (List ZoneData)) → IsTaken before lots → IsTaken (before ++ g ∷ []) new) → SoFar zones (entries (behind rest)) (at + 1) new
 one_read zones rest at lots new g h here more = record {
   done = h.done ++ g ∷ [];
   cut = h.cut ∙ (ap (λ t. h.done ++ t) (group_found rest g here) ∙ sym (append_assoc h.done (g ∷ []) (groups_of (entries (behind rest)))));
@@ -176,12 +176,12 @@ one_read zones rest at lots new g h here more = record {
   taken = more h.done h.taken;
 }
 
-pub none_more : (zones : List Entry) (rest : List Zone) (at : ℕ) (lots : List Lot) → 1 ≤ length rest → SoFar zones (entries rest) at lots → None ≡ group_at (entries rest) → SoFar zones (entries (behind rest)) at lots
+pub none_more : (zones : List ZoneData) (rest : List Zone) (at : ℕ) (lots : List Lot) → 1 ≤ length rest → SoFar zones (entries rest) at lots → None ≡ group_at (entries rest) → SoFar zones (entries (behind rest)) at lots
 none_more zones rest at lots some h here = record { done = h.done; cut = h.cut ∙ ap (λ t. h.done ++ t) (group_lacks rest some here); counted = h.counted; taken = h.taken }
 
 -- ---- the least of the broken rules
 
-pub least_there : (groups before after : List (List Entry)) (group : List Entry) (lots : List Lot) (rule place : ℕ) → groups ≡ before ++ group ∷ after → place ≡ length before + 1 → IsTaken before lots
+pub least_there : (groups before after : List (List ZoneData)) (group : List ZoneData) (lots : List Lot) (rule place : ℕ) → groups ≡ before ++ group ∷ after → place ≡ length before + 1 → IsTaken before lots
     → IsLeastHere before group rule → IsLeastBroken (BreaksDeliveryRule groups) rule place
 least_there groups before after group lots rule place cut place_is taken here = record {
   is = inl (record { before = before; group = group; after = after; cut = cut; place_is = place_is; breaks = here.breaks });
@@ -199,8 +199,8 @@ least_there groups before after group lots rule place cut place_is taken here = 
     least r p (inl b) = at_record r p b (two_cuts before group after b.before b.group b.after (sym cut ∙ b.cut))
     least r p (inr b) = inl (omega (arith, place_is, b.place_is, ap length cut, length-append before (group ∷ after)))
 
-pub refused_there : (zones : List Entry) (rest : List Zone) (at : ℕ) (lots : List Lot) (g : List Entry) (fault : LotFault) (result : RecordFault) → SoFar zones (entries rest) at lots → Some g ≡ group_at (entries rest)
-    → IfRule (λ rule. (before : List (List Entry)) → IsTaken before lots → IsLeastHere before g rule) fault → result ≡ lot_fault_at (at + 1) fault → IsRecordRefusal (BreaksDeliveryRule (groups_of zones)) result
+pub refused_there : (zones : List ZoneData) (rest : List Zone) (at : ℕ) (lots : List Lot) (g : List ZoneData) (fault : LotFault) (result : RecordFault) → SoFar zones (entries rest) at lots → Some g ≡ group_at (entries rest)
+    → IfRule (λ rule. (before : List (List ZoneData)) → IsTaken before lots → IsLeastHere before g rule) fault → result ≡ lot_fault_at (at + 1) fault → IsRecordRefusal (BreaksDeliveryRule (groups_of zones)) result
 refused_there zones rest at lots g (LotMemory e) result h here least is = subst (IsRecordRefusal (BreaksDeliveryRule (groups_of zones))) (sym is) tt
 refused_there zones rest at lots g (LotBroken rule) result h here least is =
     subst (IsRecordRefusal (BreaksDeliveryRule (groups_of zones))) (sym is)
@@ -208,11 +208,11 @@ refused_there zones rest at lots g (LotBroken rule) result h here least is =
 
 -- ---- the end
 
-all_done : (zones : List Entry) (rest : List Zone) (at : ℕ) (lots : List Lot) → length rest < 1 → (h : SoFar zones (entries rest) at lots) → groups_of zones ≡ h.done
+all_done : (zones : List ZoneData) (rest : List Zone) (at : ℕ) (lots : List Lot) → length rest < 1 → (h : SoFar zones (entries rest) at lots) → groups_of zones ≡ h.done
 all_done zones [] at lots none h = h.cut ∙ append-nil h.done
 all_done zones (z ∷ zs) at lots none h = absurd (omega arith)
 
-pub no_lots : (groups : List (List Entry)) → StatesLots groups [] → list_any is_lot groups ≡ false
+pub no_lots : (groups : List (List ZoneData)) → StatesLots groups [] → list_any is_lot groups ≡ false
 no_lots [] h = refl
 no_lots (g ∷ gs) h = go (is_lot g) refl h (no_lots gs)
   where
@@ -220,7 +220,7 @@ no_lots (g ∷ gs) h = go (is_lot g) refl h (no_lots gs)
     go true e h more = absurd h
     go false e h more = rw e (more h)
 
-pub some_lot : (groups : List (List Entry)) (l : Lot) (ls : List Lot) → StatesLots groups (l ∷ ls) → list_any is_lot groups ≡ true
+pub some_lot : (groups : List (List ZoneData)) (l : Lot) (ls : List Lot) → StatesLots groups (l ∷ ls) → list_any is_lot groups ≡ true
 some_lot [] l ls h = absurd h
 some_lot (g ∷ gs) l ls h = go (is_lot g) refl h (some_lot gs l ls)
   where
@@ -228,7 +228,7 @@ some_lot (g ∷ gs) l ls h = go (is_lot g) refl h (some_lot gs l ls)
     go true e h more = rw e refl
     go false e h more = rw e (more h)
 
-pub lacks_least : (groups done : List (List Entry)) (lots : List Lot) (place : ℕ) → groups ≡ done → IsTaken done lots → lots ≡ [] → place ≡ length done + 1 → IsLeastBroken (BreaksDeliveryRule groups) 711 place
+pub lacks_least : (groups done : List (List ZoneData)) (lots : List Lot) (place : ℕ) → groups ≡ done → IsTaken done lots → lots ≡ [] → place ≡ length done + 1 → IsLeastBroken (BreaksDeliveryRule groups) 711 place
 lacks_least groups done lots place all taken empty place_is =
     let lacks : list_any is_lot groups ≡ false = ap (list_any is_lot) all ∙ no_lots done (subst (StatesLots done) empty taken.states) in
     record {
@@ -240,18 +240,18 @@ lacks_least groups done lots place all taken empty place_is =
     least r p (inl b) = absurd (taken.sound r p (record { before = b.before; group = b.group; after = b.after; cut = sym all ∙ b.cut; place_is = b.place_is; breaks = b.breaks }))
     least r p (inr b) = inr (omega (arith, b.place_is, place_is, ap length all), omega (arith, b.rule_is))
 
-pub none_least : (zones : List Entry) (rest : List Zone) (at : ℕ) (lots : List Lot) → length rest < 1 → SoFar zones (entries rest) at lots → lots ≡ []
+pub none_least : (zones : List ZoneData) (rest : List Zone) (at : ℕ) (lots : List Lot) → length rest < 1 → SoFar zones (entries rest) at lots → lots ≡ []
     → IsRecordRefusal (BreaksDeliveryRule (groups_of zones)) (Broken 711 (at + 1))
 none_least zones rest at lots none h empty = lacks_least (groups_of zones) h.done lots (at + 1) (all_done zones rest at lots none h) h.taken empty (omega (arith, h.counted))
 
-pub all_unbroken : (zones : List Entry) (rest : List Zone) (at : ℕ) (lots : List Lot) → length rest < 1 → SoFar zones (entries rest) at lots → 0 < length lots → IsUnbroken (BreaksDeliveryRule (groups_of zones))
+pub all_unbroken : (zones : List ZoneData) (rest : List Zone) (at : ℕ) (lots : List Lot) → length rest < 1 → SoFar zones (entries rest) at lots → 0 < length lots → IsUnbroken (BreaksDeliveryRule (groups_of zones))
 all_unbroken zones rest at [] none h some rule place b = omega (arith, some)
 all_unbroken zones rest at (l ∷ ls) none h some rule place (inl b) =
     h.taken.sound rule place (record { before = b.before; group = b.group; after = b.after; cut = sym (all_done zones rest at (l ∷ ls) none h) ∙ b.cut; place_is = b.place_is; breaks = b.breaks })
 all_unbroken zones rest at (l ∷ ls) none h some rule place (inr b) =
     both_ways _ (ap (list_any is_lot) (sym (all_done zones rest at (l ∷ ls) none h)) ∙ b.lacks) (some_lot h.done l ls h.taken.states)
 
-pub all_states : (zones : List Entry) (rest : List Zone) (at : ℕ) (lots : List Lot) → length rest < 1 → SoFar zones (entries rest) at lots → StatesLots (groups_of zones) lots
+pub all_states : (zones : List ZoneData) (rest : List Zone) (at : ℕ) (lots : List Lot) → length rest < 1 → SoFar zones (entries rest) at lots → StatesLots (groups_of zones) lots
 all_states zones rest at lots none h = subst (λ gs. StatesLots gs lots) (sym (all_done zones rest at lots none h)) h.taken.states
 
 pub ok_taken : {T E : Type 0} (r : Result T E) (A B C : Type 0) → OnOk r A → OnOk r B → (A → B → C) → OnOk r C

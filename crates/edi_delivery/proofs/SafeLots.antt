@@ -4,7 +4,7 @@ use Rattle.std.specs.List.{list_any, AllByRecursion, AllZip, IsDistinct}
 use Rattle.std.specs.Str.{str_to_ascii_lowercase}
 use Rattle.std.proofs.lemmas.List.{append_assoc, append-nil, map-append}
 use Rattle.std.proofs.lemmas.List.Elements.{filter-append}
-use Rattle.edi_line.specs.Entry.{Entry}
+use Rattle.edi_line.specs.ZoneData.{ZoneData}
 use Rattle.edi_line.specs.Refusal.{BreaksTest}
 use Rattle.edi_line.specs.Zones.{groups_of}
 use Rattle.edi_record.specs.Records.{values}
@@ -80,7 +80,7 @@ safe_files lot extension (own ∷ owns) name e =
     let p = or_parts _ _ e in
     (made_of_parts lot own extension name (safe_name own p.0), safe_files lot extension owns name p.1)
 
-safe_lot : (group : List Entry) (lot : Lot) → StatesLot group lot → list_any is_unsafe (values (codes "LON") group) ≡ false → has_unsafe_file group ≡ false → HasSafeNames lot
+safe_lot : (group : List ZoneData) (lot : Lot) → StatesLot group lot → list_any is_unsafe (values (codes "LON") group) ≡ false → has_unsafe_file group ≡ false → HasSafeNames lot
 safe_lot group lot h named safe =
     let name : is_name_part lot.name ≡ true = safe_name lot.name (or_parts _ _ (ap (list_any is_unsafe) (sym h.name) ∙ named)).0 in
     let scd = or_parts _ _ safe in
@@ -120,7 +120,7 @@ flat_push : (lots : List Lot) (lot : Lot) → flat_map files_of (lots ++ lot ∷
 flat_push [] lot = append-nil (files_of lot)
 flat_push (l ∷ ls) lot = ap (λ t. files_of l ++ t) (flat_push ls lot) ∙ sym (append_assoc (files_of l) (flat_map files_of ls) (files_of lot))
 
-module _ (before : List (List Entry)) (lots : List Lot) (states : StatesLots before lots) (group : List Entry) (lot : Lot) (is : StatesLot group lot) (unbroken : (rule : ℕ) → ¬ (BreaksLotRule before group rule)) where
+module _ (before : List (List ZoneData)) (lots : List Lot) (states : StatesLots before lots) (group : List ZoneData) (lot : Lot) (is : StatesLot group lot) (unbroken : (rule : ℕ) → ¬ (BreaksLotRule before group rule)) where
   no_test : (rule : ℕ) (b : Bool) → (b ≡ true → BreaksTest (lot_tests group) rule) → b ≡ false
   no_test rule b to = is_false b (λ e. unbroken rule (lot_rule before lots states group rule (to e)))
 
@@ -158,10 +158,10 @@ module _ (before : List (List Entry)) (lots : List Lot) (states : StatesLots bef
 
 -- ---- the records of a file
 
-abbrev IsSoundFrom : List (List Entry) → List (List Entry) → Type 0
+abbrev IsSoundFrom : List (List ZoneData) → List (List ZoneData) → Type 0
 IsSoundFrom before rest = (rule place : ℕ) → ¬ (BreaksRuleAt (before ++ rest) rule place)
 
-walk : (before rest : List (List Entry)) (done todo : List Lot) → IsSoundFrom before rest → StatesLots before done → StatesLots rest todo → Kept done → Kept (done ++ todo)
+walk : (before rest : List (List ZoneData)) (done todo : List Lot) → IsSoundFrom before rest → StatesLots before done → StatesLots rest todo → Kept done → Kept (done ++ todo)
 walk before [] done [] sound states h kept = subst Kept (sym (append-nil done)) kept
 walk before [] done (l ∷ ls) sound states h kept = absurd h
 walk before (g ∷ gs) done todo sound states h kept = go (is_lot g) refl todo h (walk (before ++ g ∷ []) gs)

@@ -1,6 +1,6 @@
 -- What a whole file states.
 use Rattle.std.proofs.Common.{◌≡◌, ℕ, List, sym, ap, subst}
-use Rattle.edi_line.specs.Entry.{entries}
+use Rattle.edi_line.specs.ZoneData.{entries}
 use Rattle.edi_line.specs.LineRules.{BreaksLineRule, IsZonesOf}
 use Rattle.edi_line.specs.Refusal.{IsUnbroken}
 use Rattle.edi_line.specs.Zones.{groups_of}

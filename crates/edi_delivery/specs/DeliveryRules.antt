@@ -1,7 +1,7 @@
 -- The rules of a delivery.
 use Rattle.std.specs.Prelude.{◌≡◌, ◌⊎◌, ℕ, ◌+◌, ◌≤◌, true, false, List, [], ◌∷◌, ◌++◌, length, codes, Any}
 use Rattle.std.specs.List.{list_any, IsDistinct}
-use Rattle.edi_line.specs.Entry.{Entry}
+use Rattle.edi_line.specs.ZoneData.{ZoneData}
 use Rattle.edi_record.specs.Records.{values}
 use Rattle.edi_record.specs.RecordRules.{Counts}
 use Rattle.edi_delivery.specs.NameParts.{is_name_part, is_same_name}
@@ -17,7 +17,7 @@ abbrev pub ShareFile : Lot → Lot → Type 0
 ShareFile one other = Any (λ file. Any (λ again. is_same_name again file ≡ true) (files_of other)) (files_of one)
 
 -- over a record and those before it
-module _ (before : List (List Entry)) (group : List Entry) where
+module _ (before : List (List ZoneData)) (group : List ZoneData) where
   -- not exactly one zone with the code
   abbrev pub LacksOne : List ℕ → Type 0
   LacksOne code = (text : List ℕ) → ¬ (values code group ≡ text ∷ [])
@@ -68,20 +68,20 @@ module _ (before : List (List Entry)) (group : List Entry) where
     of_lot : is_lot group ≡ true → BreaksLotRule rule → BreaksBehind rule
 
 -- the record at this place breaks the rule
-pub record BreaksRuleAt (groups : List (List Entry)) (rule place : ℕ) : Type 0 where
-  pub before : List (List Entry)
-  pub group : List Entry
-  pub after : List (List Entry)
+pub record BreaksRuleAt (groups : List (List ZoneData)) (rule place : ℕ) : Type 0 where
+  pub before : List (List ZoneData)
+  pub group : List ZoneData
+  pub after : List (List ZoneData)
   pub cut : groups ≡ before ++ group ∷ after
   pub place_is : place ≡ length before + 1
   pub breaks : BreaksBehind before group rule
 
 -- 711: there is no lot, which is missed one past the last record
-pub record LacksLots (groups : List (List Entry)) (rule place : ℕ) : Type 0 where
+pub record LacksLots (groups : List (List ZoneData)) (rule place : ℕ) : Type 0 where
   pub rule_is : rule ≡ 711
   pub place_is : place ≡ length groups + 1
   pub lacks : list_any is_lot groups ≡ false
 
 -- the records of a file break a rule of deliveries
-abbrev pub BreaksDeliveryRule : List (List Entry) → ℕ → ℕ → Type 0
+abbrev pub BreaksDeliveryRule : List (List ZoneData) → ℕ → ℕ → Type 0
 BreaksDeliveryRule groups rule place = BreaksRuleAt groups rule place ⊎ LacksLots groups rule place

@@ -3,7 +3,7 @@ use Rattle.std.specs.Prelude.{◌≡◌, ◌≢◌, ◌↔◌, ◌⊎◌, ⊤, �
 use Rattle.std.specs.Prelude.{map, filter, flat_map}
 use Rattle.std.specs.List.{AllByRecursion, IsDistinct}
 use Rattle.std.specs.Str.{str_to_ascii_lowercase}
-use Rattle.edi_line.specs.Entry.{Entry}
+use Rattle.edi_line.specs.ZoneData.{ZoneData}
 use Rattle.edi_line.specs.LineRules.{IsZonesOf}
 use Rattle.edi_line.specs.Zones.{groups_of}
 use Rattle.edi_line.specs.declared.fault.LineFault.TheVariants as line
@@ -82,12 +82,12 @@ NamesAreSameInLowerCase = (a b : List ℕ)
 -- ---- order
 
 -- the zones of the records of lots, in the order of the file
-abbrev pub lot_zones : List (List Entry) → List Entry
+abbrev pub lot_zones : List (List ZoneData) → List ZoneData
 lot_zones groups = flat_map (λ g. g) (filter is_lot groups)
 
 -- lots are in the order of their LON, and their VEC files in that of GDN
 abbrev pub LotsAreInOrder : Type 0
-LotsAreInOrder = (bytes : List ℕ) (lots : List Lot) (zones : List Entry)
+LotsAreInOrder = (bytes : List ℕ) (lots : List Lot) (zones : List ZoneData)
     → IsDeliveryOf bytes lots → IsZonesOf bytes zones
     → (map (λ (lot : Lot). lot.name) lots ≡ values (codes "LON") (lot_zones (groups_of zones)))
     × (flat_map (λ (lot : Lot). lot.vecs) lots ≡ values (codes "GDN") (lot_zones (groups_of zones)))

@@ -1,7 +1,7 @@
 //! The delivery that a THF file states.
 
 ghost use Rattle.std.specs.Prelude.{◌≡◌, ℕ, List, [], ◌∷◌, ◌++◌, IfOk, OnOk, IfErr};
-ghost use Rattle.edi_line.specs.Entry.{Entry, entries};
+ghost use Rattle.edi_line.specs.ZoneData.{ZoneData, entries};
 ghost use Rattle.edi_line.specs.Refusal.{IsUnbroken};
 ghost use Rattle.edi_line.specs.Zones.{groups_of};
 ghost use Rattle.edi_hash.specs.Keys.{keyed_by};
@@ -54,9 +54,9 @@ fn has_type(group: &[Zone<'_>], code: &[u8]) -> bool
 fn take_record(alloc: Global, lots: &mut LotsSoFar, group: &[Zone<'_>]) -> Result<(), LotFault>
     requires { HasNoted lots.old }
     ensures noted { OnOk result (HasNoted lots.new) }
-    ensures taken { OnOk result ((before : List (List Entry)) → IsTaken before lots.old.lots.items
+    ensures taken { OnOk result ((before : List (List ZoneData)) → IsTaken before lots.old.lots.items
         → IsTaken (before ++ entries group.now ∷ []) lots.new.lots.items) }
-    ensures least { IfErr result (IfRule (λ rule. (before : List (List Entry)) → IsTaken before lots.old.lots.items
+    ensures least { IfErr result (IfRule (λ rule. (before : List (List ZoneData)) → IsTaken before lots.old.lots.items
         → IsLeastHere before (entries group.now) rule)) }
 {
     if has_type(group, b"GTS") {

@@ -3,7 +3,7 @@
 ghost use Rattle.std.specs.Prelude.{◌≡◌, true, false, [], ◌∷◌, Some, None, IfOk, OnOk, IfErr, codes};
 ghost use Rattle.std.specs.Prelude.{map, option_map, option_to_list};
 ghost use Rattle.std.specs.List.{list_any};
-ghost use Rattle.edi_line.specs.Entry.{entries};
+ghost use Rattle.edi_line.specs.ZoneData.{entries};
 ghost use Rattle.edi_line.specs.inner.Refusal.{first_broken};
 ghost use Rattle.edi_record.specs.Records.{values};
 ghost use Rattle.edi_delivery.specs.Lots.{StatesLot};

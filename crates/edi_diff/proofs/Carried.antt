@@ -5,7 +5,7 @@ use Rattle.std.proofs.lemmas.Bool.{or_parts}
 use Rattle.std.proofs.lemmas.List.Sorted.{IsPermutation-refl}
 use Rattle.edi_schema.specs.Classes.{Classes, partner_of}
 use Rattle.edi_schema.specs.Roles.{is_plain}
-use Rattle.edi_plan.specs.Plans.{Drawing, IsPlace, first_of, record_at, rest_of}
+use Rattle.edi_plan.specs.Plans.{PlanData, IsPlace, first_of, record_at, rest_of}
 use Rattle.edi_plan.specs.Whole.{IsWholePlan}
 use Rattle.edi_plan.specs.declared.record.PlanEnd.{PlanEnd}
 use Rattle.edi_plan.specs.declared.record.PlanRecord.{PlanRecord}
@@ -67,7 +67,7 @@ report_sound s first second unchanged became parts whole whole' are each = recor
   parts = λ i j same went. parts_sound s became i (record_at first.accepted i) (record_at second.accepted j) (parts_at parts i) (each i j (unmatched unchanged.to i same) went);
 }
 
-accepted_whole : (s : Classes) (b : List ℕ) (p : Drawing) → IsAccepted s b → IsPlanOfFile s b p → IsWholePlan p
+accepted_whole : (s : Classes) (b : List ℕ) (p : PlanData) → IsAccepted s b → IsPlanOfFile s b p → IsWholePlan p
 accepted_whole s b p accepted states = plans_whole s states.0 p states.2 (references_hold s b accepted states.0 states.1)
 
 pub difference_sound : (s : Classes) (a b : List ℕ) (form : TextForm) (found : Difference) → IsAccepted s a → IsAccepted s b → (d : IsDifference s a b form found) → IsSoundReport (report_in s a b form found d)
@@ -98,10 +98,10 @@ carried_turned s to t u i a b same all c = record {
 
 module _ (s : Classes) (first second : LocatedSheet) (unchanged became : Matching) (parts : List Parts) (holds : MatchingHolds s first.accepted second.accepted unchanged)
     (are : AreChanges first.accepted second.accepted unchanged became) (each : ArePartsOfEach s first.accepted second.accepted unchanged became parts) where
-  abbrev p : Drawing
+  abbrev p : PlanData
   p = first.accepted
 
-  abbrev q : Drawing
+  abbrev q : PlanData
   q = second.accepted
 
   matched_carried : (i j : ℕ) → GoesTo unchanged.to i j → GoesUnchanged s p q became i

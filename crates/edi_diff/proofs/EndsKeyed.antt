@@ -1,6 +1,6 @@
 -- The key of a link, by what is found of it.
 use Rattle.std.proofs.Common.{◌≡◌, ◌∙◌, ℕ, ◌<◌, Bool, true, ◌&&◌, cond, List, map, length, Option, Some, None, option_map, sym, ap, subst, lt-ltb}
-use Rattle.edi_plan.specs.Plans.{Drawing, IsPlace, record_at}
+use Rattle.edi_plan.specs.Plans.{PlanData, IsPlace, record_at}
 use Rattle.edi_plan.specs.declared.record.PlanEnd.{PlanEnd}
 use Rattle.edi_diff.specs.declared.proposing.LinkClass.{LinkClass}
 use Rattle.edi_diff.specs.inner.Codes.{is_of_second, place_by}
@@ -8,7 +8,7 @@ use Rattle.edi_diff.specs.inner.Keys.{all_known, ends_key, is_link, is_there}
 use Rattle.edi_diff.specs.inner.Joints.{record_by}
 use Rattle.edi_diff.specs.inner.Progress.{Progress, class_at, name_of, plan_of}
 
-module _ (m : Progress) (code : ℕ) (p : Drawing) (p_is : p ≡ plan_of m (is_of_second code)) (place : ℕ) (place_is : place ≡ place_by code) (here : place < length p.list) (link : is_link (record_at p place).kind ≡ true) where
+module _ (m : Progress) (code : ℕ) (p : PlanData) (p_is : p ≡ plan_of m (is_of_second code)) (place : ℕ) (place_is : place ≡ place_by code) (here : place < length p.list) (link : is_link (record_at p place).kind ≡ true) where
   abbrev names_by : List PlanEnd → Option (List ℕ)
   names_by ends = all_known (map (λ end. name_of m (is_of_second code) end.target) ends)
 
@@ -25,7 +25,7 @@ module _ (m : Progress) (code : ℕ) (p : Drawing) (p_is : p ≡ plan_of m (is_o
   pub ends_key_is : (s t : Bool) → s ≡ is_of_second code → t ≡ is_of_second code → (ends : List PlanEnd) → ends ≡ (record_at p place).ends → (class : LinkClass) (names : List ℕ)
       → (IsPlace (plan_of m t) place → class ≡ class_at m t place) → Some names ≡ all_known (map (λ end. name_of m s end.target) ends) → Some (class, names) ≡ ends_key m code
   ends_key_is s t s_is t_is ends ends_is class names class_of known =
-      let there : IsPlace (plan_of m t) place = subst (λ (b : Bool). IsPlace (plan_of m b) place) (sym t_is) (subst (λ (q : Drawing). IsPlace q place) p_is here) in
+      let there : IsPlace (plan_of m t) place = subst (λ (b : Bool). IsPlace (plan_of m b) place) (sym t_is) (subst (λ (q : PlanData). IsPlace q place) p_is here) in
       let class_is : class ≡ class_at m (is_of_second code) (place_by code) = class_of there ∙ (λ i. class_at m (t_is i) (place_is i)) in
       let all_ends : ends ≡ (record_by m code).ends = ends_is ∙ (λ i. (record_at (p_is i) (place_is i)).ends) in
       let all : Some names ≡ names_by (record_by m code).ends = known ∙ ((λ i. all_known (map (λ (end : PlanEnd). name_of m (s_is i) end.target) ends)) ∙ ap names_by all_ends) in

@@ -3,7 +3,7 @@ use Rattle.std.proofs.Common.{◌≡◌, ℕ, zero, suc, ◌<◌, Bool, ◌||◌
 use Rattle.std.proofs.lemmas.Bool.{eqb-true}
 use Rattle.std.specs.Option.{is_some}
 use Rattle.edi_schema.specs.Classes.{Classes}
-use Rattle.edi_plan.specs.Plans.{Drawing}
+use Rattle.edi_plan.specs.Plans.{PlanData}
 use Rattle.edi_matching.specs.Matchings.{GoesTo, IsMatched, IsTotal, MatchingHolds}
 use Rattle.edi_matching.specs.declared.matching.Matching.{Matching}
 use Rattle.edi_report.specs.Lines.{is_reached, went_to}
@@ -17,7 +17,7 @@ use Rattle.edi_diff.specs.declared.form.TextForm.{TextForm}
 use Rattle.edi_diff.specs.Forms.{IsReadByForm, text_of_form}
 
 -- nothing but the records that are the same
-pub no_changes : (s : Classes) (p q : Drawing) (m : Matching) → MatchingHolds s p q m → AreChanges p q m m
+pub no_changes : (s : Classes) (p q : PlanData) (m : Matching) → MatchingHolds s p q m → AreChanges p q m m
 no_changes s p q m h = record {
   all_entered = h.all_entered;
   all_directed = h.all_directed;
@@ -68,17 +68,17 @@ reached_goes [] j e = cc
 reached_goes (None ∷ to) j e = let w = reached_goes to j e in (suc w.0, w.1)
 reached_goes (Some k ∷ to) j e = here_or_there k to j (reached_goes to j) e
 
-pub total_reported : (p q : Drawing) (m : Matching) (marks : List Bool) → length m.to ≡ length p.list → AreMarks m.to (length q.list) marks
+pub total_reported : (p q : PlanData) (m : Matching) (marks : List Bool) → length m.to ≡ length p.list → AreMarks m.to (length q.list) marks
     → ((i : ℕ) → i < length m.to → IsMatched m.to i) → ((j : ℕ) → j < length marks → get_or marks j false ≡ true) → IsTotal p q m
 total_reported p q m marks long are went marked = record {
   each = λ i h. went i (subst (λ (n : ℕ). i < n) (sym long) h);
   onto = λ j h. reached_goes m.to j (sym (are.each j h) ∙ marked j (subst (λ (n : ℕ). j < n) (sym are.long) h));
 }
 
-pub total_went : (p q : Drawing) (m : Matching) → length m.to ≡ length p.list → IsTotal p q m → (i : ℕ) → i < length m.to → IsMatched m.to i
+pub total_went : (p q : PlanData) (m : Matching) → length m.to ≡ length p.list → IsTotal p q m → (i : ℕ) → i < length m.to → IsMatched m.to i
 total_went p q m long total i h = total.each i (subst (λ (n : ℕ). i < n) long h)
 
-pub total_marked : (p q : Drawing) (m : Matching) (marks : List Bool) → AreMarks m.to (length q.list) marks → IsTotal p q m → (j : ℕ) → j < length marks → get_or marks j false ≡ true
+pub total_marked : (p q : PlanData) (m : Matching) (marks : List Bool) → AreMarks m.to (length q.list) marks → IsTotal p q m → (j : ℕ) → j < length marks → get_or marks j false ≡ true
 total_marked p q m marks are total j h =
     let less : j < length q.list = subst (λ (n : ℕ). j < n) are.long h in
     let w = total.onto j less in

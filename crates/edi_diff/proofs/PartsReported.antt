@@ -5,7 +5,7 @@ use Rattle.std.proofs.lemmas.Bool.{cases_eq}
 use Rattle.std.proofs.lemmas.List.{get_or_append_left}
 use Rattle.std.specs.List.{AllByRecursion}
 use Rattle.std.specs.Prelude.{IsPermutation, map, option_map, slice_index}
-use Rattle.edi_plan.specs.Plans.{Drawing, IsPlace, first_of, record_at, rest_of}
+use Rattle.edi_plan.specs.Plans.{PlanData, IsPlace, first_of, record_at, rest_of}
 use Rattle.edi_plan.specs.Whole.{IsWholePlan}
 use Rattle.edi_plan.specs.declared.record.PlanEnd.{PlanEnd}
 use Rattle.edi_rank.specs.Same.{moved}
@@ -77,7 +77,7 @@ pub ends_left : (m : Comparison) (i j : ℕ) (ends : List PlanEnd) → ends ≡ 
 ends_left m i j ends is_ends b none reporter =
     ((λ t. absurd (true≢false (sym t))), (λ h. absurd (true≢false (sym (reporter.1 (subst (AllMatched m.to) (sym is_ends) h.all)) ∙ none))))
 
-pub targets_there : (p : Drawing) (targets : List ℕ) (i : ℕ) (ends : List PlanEnd) → IsWholePlan p → IsPlace p i → ends ≡ (record_at p i).ends → length targets ≡ length p.list
+pub targets_there : (p : PlanData) (targets : List ℕ) (i : ℕ) (ends : List PlanEnd) → IsWholePlan p → IsPlace p i → ends ≡ (record_at p i).ends → length targets ≡ length p.list
     → AllByRecursion (λ e. e.target < length targets) ends
 targets_there p targets i ends whole here is_ends long =
     subst (λ (n : ℕ). AllByRecursion (λ e. e.target < n) ends) (sym long)
@@ -85,7 +85,7 @@ targets_there p targets i ends whole here is_ends long =
 
 -- ---- all records
 
-pub parts_reported : {X E : Type 0} (s : Classes) (p q : Drawing) (unchanged became : Matching) (of_unchanged to : List (Option ℕ)) (turned : List Bool)
+pub parts_reported : {X E : Type 0} (s : Classes) (p q : PlanData) (unchanged became : Matching) (of_unchanged to : List (Option ℕ)) (turned : List Bool)
     → of_unchanged ≡ unchanged.to → to ≡ became.to → turned ≡ became.turned → (r : Result X E) (items : X → List Parts)
     → IfOk r (λ parts. (i j : ℕ) → ¬ (IsMatched of_unchanged i) → GoesTo to i j → AreChangedParts s (record { to = to; turned = turned }) i (record_at p i) (record_at q j) (parts_at (items parts) i))
     → IfOk r (λ parts. ArePartsOfEach s p q unchanged became (items parts))

@@ -4,7 +4,7 @@ use Rattle.std.specs.List.{list_any, range_with_len}
 use Rattle.std.proofs.lemmas.Bool.{false_from_ne_true, or_parts}
 use Rattle.edi_record.specs.declared.record.Kind.{Kind}
 use Rattle.edi_record.specs.declared.record.Kind.TheVariants.{Pno, Par, Pfe, Fea, Lnk}
-use Rattle.edi_plan.specs.Plans.{Drawing, IsPlace, is_object, record_at}
+use Rattle.edi_plan.specs.Plans.{PlanData, IsPlace, is_object, record_at}
 use Rattle.edi_plan.specs.Sides.{targets}
 use Rattle.edi_matching.specs.Differences.{IsReached}
 use Rattle.edi_report.specs.Lines.{is_reached, went_to}
@@ -29,7 +29,7 @@ object_kind Lnk e = absurd (true≢false (sym e))
 
 -- ---- where an outline does not differ
 
-module _ (test : ℕ → Bool) (p : Drawing) (k : ℕ) (none : outline_differs test p k ≡ false) where
+module _ (test : ℕ → Bool) (p : PlanData) (k : ℕ) (none : outline_differs test p k ≡ false) where
   halves : (test k ≡ false) × (list_any (bounds_anew test p k) (links_of p k) ≡ false)
   halves = or_parts (test k) (list_any (bounds_anew test p k) (links_of p k)) none
 

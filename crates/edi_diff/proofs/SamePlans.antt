@@ -9,7 +9,7 @@ use Rattle.edi_record.specs.declared.record.Kind.{Kind}
 use Rattle.edi_record.specs.declared.record.Kind.TheVariants.{Pno, Par, Pfe, Fea, Lnk}
 use Rattle.edi_schema.specs.Classes.{Classes}
 use Rattle.edi_plan.specs.Places.{places_of}
-use Rattle.edi_plan.specs.Plans.{Drawing, IsPlace, is_object, record_at}
+use Rattle.edi_plan.specs.Plans.{PlanData, IsPlace, is_object, record_at}
 use Rattle.edi_plan.specs.Sides.{targets}
 use Rattle.edi_plan.proofs.PlaceLemmas.{place_of_kind, place_there}
 use Rattle.edi_rank.specs.Same.{Same}
@@ -40,14 +40,14 @@ none_of_any : (test : ℕ → Bool) → ((k : ℕ) → test k ≡ false) → (xs
 none_of_any test none [] = refl
 none_of_any test none (x ∷ xs) = or_from (test x) (list_any test xs) (none x) (none_of_any test none xs)
 
-no_outline : (test : ℕ → Bool) → ((k : ℕ) → test k ≡ false) → (p : Drawing) (k : ℕ) → outline_differs test p k ≡ false
+no_outline : (test : ℕ → Bool) → ((k : ℕ) → test k ≡ false) → (p : PlanData) (k : ℕ) → outline_differs test p k ≡ false
 no_outline test none p k = or_from (test k) (list_any (bounds_anew test p k) (links_of p k)) (none k) (none_of_any (bounds_anew test p k) one (links_of p k))
   where
     one : (link : ℕ) → bounds_anew test p k link ≡ false
     one link = and_right (bounds_type (record_at p link).role (record_at p k).kind) (test link || list_any test (targets (record_at p link)))
         (or_from (test link) (list_any test (targets (record_at p link))) (none link) (none_of_any test none (targets (record_at p link))))
 
-text_none : (f : ℕ → List ℕ) (kind : Kind) (p : Drawing) → ((k : ℕ) → IsPlace p k → (record_at p k).kind ≡ kind → f k ≡ []) → flat_map f (places_of kind p) ≡ []
+text_none : (f : ℕ → List ℕ) (kind : Kind) (p : PlanData) → ((k : ℕ) → IsPlace p k → (record_at p k).kind ≡ kind → f k ≡ []) → flat_map f (places_of kind p) ≡ []
 text_none f kind p each = none_from f (places_of kind p) (all_by_places (λ (k : ℕ). f k ≡ []) (places_of kind p) 0 (λ m h. each (get_or (places_of kind p) m 0) (place_there kind p m h) (place_of_kind kind p m h)))
 
 none_any_within : (test : ℕ → Bool) (n : ℕ) → ((i : ℕ) → i < n → test i ≡ false) → list_any test (range_with_len 0 n) ≡ false
@@ -124,10 +124,10 @@ silent_if_same n s a b form found accepted accepted' d same = tells_of_none n r 
     r : Report
     r = report_in s a b form found d
 
-    p : Drawing
+    p : PlanData
     p = d.first.accepted
 
-    q : Drawing
+    q : PlanData
     q = d.second.accepted
 
     sound : IsSoundReport r

@@ -8,7 +8,7 @@ use Rattle.edi_record.specs.declared.record.Kind.{Kind}
 use Rattle.edi_record.specs.declared.record.Kind.TheVariants.{Pno, Par, Pfe, Fea, Lnk}
 use Rattle.edi_schema.specs.Classes.{Classes}
 use Rattle.edi_plan.specs.Places.{places_of}
-use Rattle.edi_plan.specs.Plans.{Drawing, IsPlace, record_at}
+use Rattle.edi_plan.specs.Plans.{PlanData, IsPlace, record_at}
 use Rattle.edi_plan.specs.declared.record.PlanEnd.{PlanEnd}
 use Rattle.edi_plan.proofs.PlaceLemmas.{has_place}
 use Rattle.edi_rank.specs.Labelling.{turned_at}
@@ -38,7 +38,7 @@ use Rattle.edi_diff.proofs.Carried.{difference_sound, rest_carried}
 use Rattle.edi_diff.proofs.Outcomes.{reached_goes}
 
 -- where a text made place by place is none, so is that of each place
-place_none : (f : ℕ → List ℕ) (kind : Kind) (p : Drawing) (k : ℕ) → IsPlace p k → (record_at p k).kind ≡ kind → flat_map f (places_of kind p) ≡ [] → f k ≡ []
+place_none : (f : ℕ → List ℕ) (kind : Kind) (p : PlanData) (k : ℕ) → IsPlace p k → (record_at p k).kind ≡ kind → flat_map f (places_of kind p) ≡ [] → f k ≡ []
 place_none f kind p k there is none =
     let found = has_place kind p k there is in
     subst (λ (x : ℕ). f x ≡ []) found.2 (one_of_all (λ (x : ℕ). f x ≡ []) (places_of kind p) (none_each f (places_of kind p) none) found.0 0 found.1)
@@ -130,10 +130,10 @@ same_if_silent n s a b form found accepted accepted' d silent =
     r : Report
     r = report_in s a b form found d
 
-    p : Drawing
+    p : PlanData
     p = d.first.accepted
 
-    q : Drawing
+    q : PlanData
     q = d.second.accepted
 
     became : Matching

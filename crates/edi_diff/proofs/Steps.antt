@@ -5,7 +5,7 @@ use Rattle.std.proofs.lemmas.List.{get_or-set_other, get_or-set_same, length-set
 use Rattle.edi_record.specs.declared.record.Kind.TheVariants.{Par}
 use Rattle.std.specs.Option.{is_some}
 use Rattle.edi_schema.specs.Classes.{Classes}
-use Rattle.edi_plan.specs.Plans.{Drawing, IsPlace, record_at}
+use Rattle.edi_plan.specs.Plans.{PlanData, IsPlace, record_at}
 use Rattle.edi_matching.specs.Matchings.{GoesTo, IsMatched, MatchingHolds}
 use Rattle.edi_matching.specs.declared.matching.Matching.{Matching}
 use Rattle.edi_report.specs.Lines.{is_reached}
@@ -15,7 +15,7 @@ use Rattle.edi_diff.specs.Directions.{RunsBackwards}
 use Rattle.edi_diff.specs.inner.Steps.{AreSteps, MayGo}
 use Rattle.edi_diff.proofs.Outcomes.{goes_reached, no_changes, reached_goes}
 
-module _ (p q : Drawing) (unchanged : Matching) (to : List (Option ℕ)) (turned reached : List Bool) (are : AreSteps p q unchanged to turned reached)
+module _ (p q : PlanData) (unchanged : Matching) (to : List (Option ℕ)) (turned reached : List Bool) (are : AreSteps p q unchanged to turned reached)
     (i j : ℕ) (t : Bool) (may : MayGo p q i j) (arc : t ≡ true → (record_at p i).kind ≡ Par)
     (turn : (record_at p i).kind ≡ Par → RunsBackwards (record_at p i).points (record_at q j).points t) (free : get_or to i None ≡ None) (unmet : get_or reached j false ≡ false) where
   here : i < length to
@@ -132,7 +132,7 @@ pub none_there : (o : Option ℕ) → is_some o ≡ false → o ≡ None
 none_there None none = refl
 none_there (Some j) none = cc
 
-pub no_steps : (s : Classes) (p q : Drawing) (unchanged : Matching) (to : List (Option ℕ)) (turned reached : List Bool) → MatchingHolds s p q unchanged
+pub no_steps : (s : Classes) (p q : PlanData) (unchanged : Matching) (to : List (Option ℕ)) (turned reached : List Bool) → MatchingHolds s p q unchanged
     → to ≡ unchanged.to → turned ≡ unchanged.turned → AreMarks unchanged.to (length q.list) reached → AreSteps p q unchanged to turned reached
 no_steps s p q unchanged to turned reached h is_to is_turned marks = record {
   changes = subst (λ (ts : List Bool). AreChanges p q unchanged (record { to = to; turned = ts })) (sym is_turned)

@@ -3,7 +3,7 @@ use Rattle.std.specs.Prelude.{◌≡◌, ◌↔◌, ℕ, List, IsPermutation, fa
 use Rattle.std.specs.List.{AllByRecursion}
 use Rattle.edi_record.specs.declared.record.Kind.TheVariants.{Par}
 use Rattle.edi_schema.specs.Classes.{Classes, partner_of}
-use Rattle.edi_plan.specs.Plans.{Drawing, IsPlace, record_at, origin_of, others_of}
+use Rattle.edi_plan.specs.Plans.{PlanData, IsPlace, record_at, origin_of, others_of}
 use Rattle.edi_plan.specs.declared.record.PlanRecord.{PlanRecord}
 use Rattle.edi_rank.specs.Labelling.{turned_at}
 use Rattle.edi_rank.specs.Same.{class_after, directed, moved}
@@ -16,7 +16,7 @@ use Rattle.edi_report.specs.declared.parts.Parts.{Parts}
 -- Beside the records of p that are matched, some others go to records of q of their types, which they became; no two go
 -- to one. Those of them that are reversed are arcs, and an arc that became another is reversed if it runs the other
 -- way.
-pub record AreChanges (p q : Drawing) (unchanged became : Matching) : Type 0 where
+pub record AreChanges (p q : PlanData) (unchanged became : Matching) : Type 0 where
   pub all_entered : length became.to ≡ length p.list
   pub all_directed : length became.turned ≡ length p.list
   pub keeps : (i j : ℕ) → GoesTo unchanged.to i j → GoesTo became.to i j
@@ -44,7 +44,7 @@ pub record AreChangedParts (s : Classes) (became : Matching) (i : ℕ) (a b : Pl
   pub ends : (parts.ends ≡ false) ↔ HasEndsOf became a b
 
 -- the parts of each record that changed
-abbrev pub ArePartsOfEach : Classes → Drawing → Drawing → Matching → Matching → List Parts → Type 0
+abbrev pub ArePartsOfEach : Classes → PlanData → PlanData → Matching → Matching → List Parts → Type 0
 ArePartsOfEach s p q unchanged became parts =
     (i j : ℕ) → ¬ (IsMatched unchanged.to i) → GoesTo became.to i j
     → AreChangedParts s became i (record_at p i) (record_at q j) (parts_at parts i)

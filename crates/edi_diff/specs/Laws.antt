@@ -2,7 +2,7 @@
 use Rattle.std.specs.Prelude.{◌≡◌, ◌≢◌, ◌↔◌, ◌++◌, ℕ, true, false, List, [], codes, slice_index}
 use Rattle.edi_record.specs.declared.record.Kind.TheVariants.{Fea}
 use Rattle.edi_schema.specs.Classes.{Classes}
-use Rattle.edi_plan.specs.Plans.{Drawing, IsPlace, record_at}
+use Rattle.edi_plan.specs.Plans.{PlanData, IsPlace, record_at}
 use Rattle.edi_rank.specs.Labelling.{turned_at}
 use Rattle.edi_rank.specs.Same.{CarriesRecord, Same}
 use Rattle.edi_compare.specs.Rules.{IsAccepted}
@@ -32,7 +32,7 @@ TextHidesNothing = (n : Naming) (s : Classes) (a b : List ℕ) (form : TextForm)
     → IsAccepted s b → (d : IsDifference s a b form found) → HidesNothing n (report_in s a b form found d)
 
 -- the record at the place i goes to one of q, and with its ends, where they went, it is that one
-pub record GoesUnchanged (s : Classes) (p q : Drawing) (became : Matching) (i : ℕ) : Type 0 where
+pub record GoesUnchanged (s : Classes) (p q : PlanData) (became : Matching) (i : ℕ) : Type 0 where
   pub target : ℕ
   pub goes : GoesTo became.to i target
   pub carried : CarriesRecord s (slice_index (targets_of became.to)) (turned_at became.turned) i (record_at p i)
@@ -46,7 +46,7 @@ RestIsCarried = (s : Classes) (a b : List ℕ) (form : TextForm) (found : Differ
 
 -- A node, an arc or a face of p is carried with what bounds it: it, the links that bound it, and what these name; and
 -- each link that bounds the one of q onto which it is carried is one that a link of p became.
-pub record IsCarriedWithBounds (s : Classes) (p q : Drawing) (became : Matching) (k : ℕ) : Type 0 where
+pub record IsCarriedWithBounds (s : Classes) (p q : PlanData) (became : Matching) (k : ℕ) : Type 0 where
   pub itself : GoesUnchanged s p q became k
   pub bounds : (link : ℕ) → IsLinkOf p k link → bounds_type (record_at p link).role (record_at p k).kind ≡ true
       → GoesUnchanged s p q became link
@@ -58,7 +58,7 @@ pub record IsCarriedWithBounds (s : Classes) (p q : Drawing) (became : Matching)
 -- An object of p is carried with all that its links reach: it, the links that name it, and what these name beside
 -- objects, with what bounds that; and each link that names the one of q onto which it is carried is one that a link of
 -- p became.
-pub record IsCarriedWithLinks (s : Classes) (p q : Drawing) (became : Matching) (i : ℕ) : Type 0 where
+pub record IsCarriedWithLinks (s : Classes) (p q : PlanData) (became : Matching) (i : ℕ) : Type 0 where
   pub itself : GoesUnchanged s p q became i
   pub links : (link : ℕ) → IsLinkOf p i link → GoesUnchanged s p q became link
   pub joined : (link other : ℕ) → IsLinkOf p i link → IsLinkOf p other link → (record_at p other).kind ≢ Fea

@@ -7,7 +7,7 @@ use Rattle.edi_report.specs.Reports.{Report}
 use Rattle.edi_report.specs.declared.sheet.LocatedSheet.{LocatedSheet}
 use Rattle.edi_diff.specs.Changes.{AreChanges}
 use Rattle.edi_diff.proofs.Outcomes.{goes_reached, reached_goes}
-use Rattle.edi_plan.specs.Plans.{Drawing}
+use Rattle.edi_plan.specs.Plans.{PlanData}
 use Rattle.edi_picture.specs.declared.mark.Mark.TheVariants.{Plain, OnlySecond, After, Hidden}
 use Rattle.edi_drawing.specs.Laws.{FirstGreyIfUnlisted, SecondAloneIfListed, SecondChangedIfBecame, report_of}
 use Rattle.edi_drawing.specs.Marked.{mark_by}
@@ -21,7 +21,7 @@ pub grey : FirstGreyIfUnlisted
 grey first second unchanged became parts i = grey_by (report_of first second unchanged became parts) i (get_or unchanged.to i None) (get_or became.to i None)
 
 -- what is kept is among what became
-kept_reached : (p q : Drawing) (unchanged became : Matching) (j : ℕ) → AreChanges p q unchanged became → is_reached unchanged.to j ≡ true → is_reached became.to j ≡ true
+kept_reached : (p q : PlanData) (unchanged became : Matching) (j : ℕ) → AreChanges p q unchanged became → is_reached unchanged.to j ≡ true → is_reached became.to j ≡ true
 kept_reached p q unchanged became j are h = let w = reached_goes unchanged.to j h in goes_reached became.to w.0 j (are.keeps w.0 j w.1)
 
 alone_by : (line : List ℕ) → ¬ (line ≡ []) → (a b : Bool) → (a ≡ true → b ≡ true)

@@ -8,7 +8,7 @@ use Rattle.edi_record.specs.declared.record.Kind.{Kind}
 use Rattle.edi_record.specs.declared.record.Kind.TheVariants.{Lnk}
 use Rattle.edi_schema.specs.Classes.{Classes}
 use Rattle.edi_plan.specs.Places.{places_of}
-use Rattle.edi_plan.specs.Plans.{Drawing, IsPlace, is_object, record_at}
+use Rattle.edi_plan.specs.Plans.{PlanData, IsPlace, is_object, record_at}
 use Rattle.edi_plan.specs.Sides.{targets}
 use Rattle.edi_plan.specs.declared.record.PlanAttribute.{PlanAttribute}
 use Rattle.edi_plan.specs.declared.record.PlanEnd.{PlanEnd}
@@ -29,10 +29,10 @@ found_holds test P (y ∷ ys) each x is = by (test y) refl (λ e. found_holds te
     by false h rest = rest (ap (λ (c : Bool). cond c (Some y) (find test ys)) h ∙ is)
 
 -- a link that calls a record something is a place
-pub caller_there : (s : Classes) (p : Drawing) (kind : Kind) (test : ℕ → Bool) (link : ℕ) → find test (places_of kind p) ≡ Some link → IsPlace p link
+pub caller_there : (s : Classes) (p : PlanData) (kind : Kind) (test : ℕ → Bool) (link : ℕ) → find test (places_of kind p) ≡ Some link → IsPlace p link
 caller_there s p kind test link is = found_holds test (IsPlace p) (places_of kind p) (place_there kind p) link is
 
-pub caller_at : (s : Classes) (p : Drawing) (callers : List (Option ℕ)) (k link : ℕ) → AreCallers s p callers → Some link ≡ get_or callers k None → IsPlace p link
+pub caller_at : (s : Classes) (p : PlanData) (callers : List (Option ℕ)) (k link : ℕ) → AreCallers s p callers → Some link ≡ get_or callers k None → IsPlace p link
 caller_at s p callers k link are is = by (cases_lt k (length callers))
   where
     none : None ≡ Some link → IsPlace p link
@@ -43,7 +43,7 @@ caller_at s p callers k link are is = by (cases_lt k (length callers))
     by (inr more) = none (sym (get_or_past callers k None more) ∙ sym is)
 
 -- what people call an object that a link names first is what the link calls whatever it names
-pub called : (s : Classes) (p : Drawing) (link k : ℕ) (ends : List PlanEnd) (attributes : List PlanAttribute) (label : List ℕ)
+pub called : (s : Classes) (p : PlanData) (link k : ℕ) (ends : List PlanEnd) (attributes : List PlanAttribute) (label : List ℕ)
     → Some k ≡ find (λ (j : ℕ). is_object (record_at p j).kind) (map (λ (e : PlanEnd). e.target) ends) → ends ≡ (record_at p link).ends
     → attributes ≡ (record_at p k).attributes → label ≡ unwrap_or (find is_something (map (attribute_label s) (take 32 attributes))) []
     → label ≡ link_label s p link
@@ -53,7 +53,7 @@ called s p link k ends attributes label first there its is =
     (first ∙ ap (λ (es : List PlanEnd). find (λ (j : ℕ). is_object (record_at p j).kind) (map (λ (e : PlanEnd). e.target) es)) there))
 
 -- one link more
-pub more_callers : (s : Classes) (p : Drawing) (links : List ℕ) (i link : ℕ) (old new : List (Option ℕ)) → i < length links → link ≡ get_or links i 0
+pub more_callers : (s : Classes) (p : PlanData) (links : List ℕ) (i link : ℕ) (old new : List (Option ℕ)) → i < length links → link ≡ get_or links i 0
     → HaveCallers s p (take i links) old → length new ≡ length old
     → ((k : ℕ) → k < length old → get_or new k None ≡ option_or (get_or old k None) (if calls s p k link then Some link else None))
     → HaveCallers s p (take (i + 1) links) new

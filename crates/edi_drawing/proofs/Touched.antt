@@ -8,13 +8,13 @@ use Rattle.std.proofs.lemmas.List.Folds.{list_any-append}
 use Rattle.std.proofs.lemmas.List.FromFn.{get_or-map-range_with_len, length-map-range_with_len, map-range_with_len_more}
 use Rattle.edi_record.specs.declared.record.Kind.TheVariants.{Lnk}
 use Rattle.edi_plan.specs.Places.{places_of}
-use Rattle.edi_plan.specs.Plans.{Drawing}
+use Rattle.edi_plan.specs.Plans.{PlanData}
 use Rattle.edi_picture.specs.declared.mark.Mark.{Mark}
 use Rattle.edi_drawing.specs.Tints.{is_touched, touches}
 use Rattle.edi_drawing.specs.inner.Tints.{AreTouched, HaveTouched}
 
 -- one link more
-pub more_touched : (marks : List Mark) (p : Drawing) (links : List ℕ) (i link : ℕ) (old new : List Bool) → i < length links → link ≡ get_or links i 0
+pub more_touched : (marks : List Mark) (p : PlanData) (links : List ℕ) (i link : ℕ) (old new : List Bool) → i < length links → link ≡ get_or links i 0
     → HaveTouched marks p (take i links) old → length new ≡ length old
     → ((k : ℕ) → k < length old → get_or new k false ≡ (get_or old k false || touches marks p k link))
     → HaveTouched marks p (take (i + 1) links) new

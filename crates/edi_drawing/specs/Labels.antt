@@ -7,7 +7,7 @@ use Rattle.edi_record.specs.declared.record.Value.{Value}
 use Rattle.edi_record.specs.declared.record.Value.TheVariants.{Number, Bytes}
 use Rattle.edi_schema.specs.Classes.{Classes}
 use Rattle.edi_plan.specs.Places.{places_of}
-use Rattle.edi_plan.specs.Plans.{Drawing, is_object, record_at}
+use Rattle.edi_plan.specs.Plans.{PlanData, is_object, record_at}
 use Rattle.edi_plan.specs.Sides.{targets}
 use Rattle.edi_plan.specs.declared.record.PlanAttribute.{PlanAttribute}
 use Rattle.edi_plan.specs.declared.record.PlanRecord.{PlanRecord}
@@ -36,29 +36,29 @@ abbrev pub object_label : Classes → PlanRecord → List ℕ
 object_label s r = unwrap_or (find is_something (map (attribute_label s) (take 32 r.attributes))) []
 
 -- what a link calls whatever it names: what people call the object that it names first
-abbrev pub link_label : Classes → Drawing → ℕ → List ℕ
+abbrev pub link_label : Classes → PlanData → ℕ → List ℕ
 link_label s p link = option_map_or (λ k. object_label s (record_at p k))
     (find (λ k. is_object (record_at p k).kind) (targets (record_at p link))) []
 
 -- a link names the record at a place
-abbrev pub names : Drawing → ℕ → ℕ → Bool
+abbrev pub names : PlanData → ℕ → ℕ → Bool
 names p k link = list_any (λ e. e.target == k) (record_at p link).ends
 
 -- a link names at most four records: so do those of parcels, and those of communes and sections mostly name more
-abbrev pub names_few : Drawing → ℕ → Bool
+abbrev pub names_few : PlanData → ℕ → Bool
 names_few p link = nat_le (length (record_at p link).ends) 4
 
 -- such a link calls the record at a place something
-abbrev pub calls : Classes → Drawing → ℕ → ℕ → Bool
+abbrev pub calls : Classes → PlanData → ℕ → ℕ → Bool
 calls s p k link = names p k link && (names_few p link && is_something (link_label s p link))
 
 -- what the first link that does so calls it
-abbrev pub label_of : Classes → Drawing → ℕ → List ℕ
+abbrev pub label_of : Classes → PlanData → ℕ → List ℕ
 label_of s p k =
     if nat_lt k (length p.list) then option_map_or (link_label s p) (find (calls s p k) (places_of Lnk p)) [] else []
 
 -- the same of a record that another may be
-abbrev pub label_there : Classes → Drawing → Option ℕ → List ℕ
+abbrev pub label_there : Classes → PlanData → Option ℕ → List ℕ
 label_there s q None = []
 label_there s q (Some j) = label_of s q j
 

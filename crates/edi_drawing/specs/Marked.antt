@@ -1,7 +1,7 @@
 -- The marks of records, and sheets as they are drawn.
 use Rattle.std.specs.Prelude.{ℕ, Bool, List, Option, Some, None, length, map, slice_index_or, if◌then◌else◌}
 use Rattle.std.specs.List.{range_with_len}
-use Rattle.edi_plan.specs.Plans.{Drawing}
+use Rattle.edi_plan.specs.Plans.{PlanData}
 use Rattle.edi_matching.specs.declared.matching.Matching.{Matching}
 use Rattle.edi_report.specs.Lines.{is_reached}
 use Rattle.edi_report.specs.declared.sheet.LocatedSheet.{LocatedSheet}
@@ -26,7 +26,7 @@ second_mark unchanged became j =
     if is_reached unchanged.to j then Hidden else if is_reached became.to j then After else OnlySecond
 
 -- something of each record of a plan
-abbrev pub of_each : {X : Type 0} → (ℕ → X) → Drawing → List X
+abbrev pub of_each : {X : Type 0} → (ℕ → X) → PlanData → List X
 of_each f p = map f (range_with_len 0 (length p.list))
 
 -- two sheets, and what is unchanged of the first in the second and what became of it there

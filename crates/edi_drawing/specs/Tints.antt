@@ -3,7 +3,7 @@ use Rattle.std.specs.Prelude.{ℕ, ◌&&◌, ◌||◌, Bool, true, false, List, 
 use Rattle.std.specs.List.{list_any}
 use Rattle.edi_record.specs.declared.record.Kind.TheVariants.{Lnk}
 use Rattle.edi_plan.specs.Places.{places_of}
-use Rattle.edi_plan.specs.Plans.{Drawing, record_at}
+use Rattle.edi_plan.specs.Plans.{PlanData, record_at}
 use Rattle.edi_picture.specs.declared.mark.Mark.{Mark}
 use Rattle.edi_picture.specs.declared.mark.Mark.TheVariants.{Plain, OnlyFirst, OnlySecond, Before, After, Hidden}
 use Rattle.edi_drawing.specs.Labels.{names, names_few}
@@ -23,19 +23,19 @@ abbrev pub is_out : List Mark → ℕ → Bool
 is_out marks k = stands_out (slice_index_or marks k Hidden)
 
 -- a link isn't in both sheets as it is, or something isn't that it names
-abbrev pub links_out : List Mark → Drawing → ℕ → Bool
+abbrev pub links_out : List Mark → PlanData → ℕ → Bool
 links_out marks p link = is_out marks link || list_any (λ e. is_out marks e.target) (record_at p link).ends
 
 -- Such a link names the record at a place and few others: a link of a section, of whose parcels one is new, doesn't
 -- touch the others.
-abbrev pub touches : List Mark → Drawing → ℕ → ℕ → Bool
+abbrev pub touches : List Mark → PlanData → ℕ → ℕ → Bool
 touches marks p k link = names p k link && (names_few p link && links_out marks p link)
 
-abbrev pub is_touched : List Mark → Drawing → ℕ → Bool
+abbrev pub is_touched : List Mark → PlanData → ℕ → Bool
 is_touched marks p k = nat_lt k (length p.list) && list_any (touches marks p k) (places_of Lnk p)
 
 -- the same of a record that another may be
-abbrev pub is_touched_there : List Mark → Drawing → Option ℕ → Bool
+abbrev pub is_touched_there : List Mark → PlanData → Option ℕ → Bool
 is_touched_there marks q None = false
 is_touched_there marks q (Some j) = is_touched marks q j
 

@@ -3,7 +3,7 @@ use Rattle.std.proofs.Common.{◌≡◌, ◌∙◌, ◌⊎◌, inl, inr, ◌+◌
 use Rattle.std.proofs.lemmas.Bool.{cases_order, eqb-true}
 use Rattle.std.proofs.lemmas.List.{append_assoc, at_drop_more, get_or_past, take_more}
 use Rattle.std.proofs.lemmas.Option.{get_or_from_slice_get, slice_get_within}
-use Rattle.edi_plan.specs.Plans.{Drawing, blank}
+use Rattle.edi_plan.specs.Plans.{PlanData, blank}
 use Rattle.edi_plan.specs.declared.record.PlanRecord.{PlanRecord}
 use Rattle.edi_record.specs.declared.name.Name.{Name}
 use Rattle.edi_schema.proofs.Noted.{count_joined}
@@ -20,13 +20,13 @@ module _ (list : List PlanRecord) (class : ℕ) where
   counted_more n less =
       ap (count_by Has) (take_more list n blank less) ∙ (count_joined Has (take n list) (get_or list n blank ∷ []) ∙ omega arith)
 
-pub lines_more : (p : Drawing) (place : ℕ) (names : List Name) (name : Name) → slice_get names place ≡ Some name
+pub lines_more : (p : PlanData) (place : ℕ) (names : List Name) (name : Name) → slice_get names place ≡ Some name
     → class_count_lines p place (drop place names) ≡ class_count_line name (count_of_class p place) ++ class_count_lines p (suc place) (drop (place + 1) names)
 lines_more p place names name e =
     at_drop_more (class_count_lines p place) names place name (slice_get_within names place name e)
     ∙ ap (λ (x : Name). class_count_line x (count_of_class p place) ++ class_count_lines p (suc place) (drop (place + 1) names)) (get_or_from_slice_get names place name name e)
 
-pub more_said : (p : Drawing) (place : ℕ) (names : List Name) (name said : Name) (count : ℕ) (old new total : List ℕ) → slice_get names place ≡ Some name
+pub more_said : (p : PlanData) (place : ℕ) (names : List Name) (name said : Name) (count : ℕ) (old new total : List ℕ) → slice_get names place ≡ Some name
     → said ≡ name → count ≡ count_of_class p place → new ≡ old ++ class_count_line said count → old ++ class_count_lines p place (drop place names) ≡ total
     → new ++ class_count_lines p (place + 1) (drop (place + 1) names) ≡ total
 more_said p place names name said count old new total there is counts pushed kept =

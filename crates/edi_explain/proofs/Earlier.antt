@@ -1,6 +1,6 @@
 -- The earlier records that rules of topology and of objects speak of.
 use Rattle.std.proofs.Common.{◌≡◌, ◌≢◌, ◌<◌, ℕ, List, Option, None, refl, arith}
-use Rattle.edi_plan.specs.Plans.{Drawing}
+use Rattle.edi_plan.specs.Plans.{PlanData}
 use Rattle.edi_schema.specs.Classes.{Classes}
 use Rattle.edi_topo.specs.TopologyRules.{BreaksTopologyRule}
 use Rattle.edi_topo.specs.TopologyRules.BreaksTopologyRule.{starts_elsewhere, ends_elsewhere, repeats_node, equals_reverse, repeats_arc, bounds_nothing}
@@ -11,7 +11,7 @@ use Rattle.edi_explain.specs.Partners.{IsEqualNode, IsEqualObject, IsLeastIfAny,
 use Rattle.edi_explain.specs.EndNodes.{IsEndNodeIfAny}
 use Rattle.edi_explain.specs.Refusals.{IsEarlierIfAny}
 
-topology_between : (p : Drawing) (rule at : ℕ) → BreaksTopologyRule p rule at → (400 < rule) × (rule < 407)
+topology_between : (p : PlanData) (rule at : ℕ) → BreaksTopologyRule p rule at → (400 < rule) × (rule < 407)
 topology_between p rule at (starts_elsewhere e h) = (omega (arith, e), omega (arith, e))
 topology_between p rule at (ends_elsewhere e h) = (omega (arith, e), omega (arith, e))
 topology_between p rule at (repeats_node e h) = (omega (arith, e), omega (arith, e))
@@ -19,7 +19,7 @@ topology_between p rule at (equals_reverse e h) = (omega (arith, e), omega (arit
 topology_between p rule at (repeats_arc e h) = (omega (arith, e), omega (arith, e))
 topology_between p rule at (bounds_nothing e h) = (omega (arith, e), omega (arith, e))
 
-module _ (s : Classes) (b : List ℕ) (p : Drawing) (states : IsPlanOfFile s b p) (rule place : ℕ) where
+module _ (s : Classes) (b : List ℕ) (p : PlanData) (states : IsPlanOfFile s b p) (rule place : ℕ) where
   pub node_earlier : (earlier : Option ℕ) → rule ≡ 403 → IsLeastIfAny (IsEqualNode p place) earlier → IsEarlierIfAny s b rule place earlier
   node_earlier earlier is found = record {
     names = λ e. absurd (omega (arith, e, is));
@@ -66,7 +66,7 @@ module _ (s : Classes) (b : List ℕ) (p : Drawing) (states : IsPlanOfFile s b p
         others = λ a d f g h i. refl;
       }
 
-pub object_rule : (p : Drawing) (rule at : ℕ) → BreaksObjectRule p rule at → rule ≡ 501
+pub object_rule : (p : PlanData) (rule at : ℕ) → BreaksObjectRule p rule at → rule ≡ 501
 object_rule p rule at (repeats_object e there less h) = e
 
 -- a rule that isn't of the ends of arcs speaks of no node

@@ -5,7 +5,7 @@ use Rattle.std.proofs.lemmas.List.{get_or-map}
 use Rattle.std.proofs.lemmas.List.Elements.{Contains-get_or}
 use Rattle.edi_record.specs.declared.record.Kind.TheVariants.{Fea}
 use Rattle.edi_plan.specs.Places.{places_of}
-use Rattle.edi_plan.specs.Plans.{Drawing}
+use Rattle.edi_plan.specs.Plans.{PlanData}
 use Rattle.edi_plan.specs.Whole.{IsWholePlan}
 use Rattle.edi_plan.proofs.PlaceLemmas.{place_there, place_of_kind, places_rise, has_place}
 use Rattle.edi_rank.specs.EqualObjects.{AreEqualObjects}
@@ -19,16 +19,16 @@ use Rattle.edi_explain.specs.Partners.{IsEqualObject, IsLeast}
 abbrev pub no_object : ObjectKey
 no_object = record { class = 0; attributes = []; extras = []; pieces = [] }
 
-abbrev pub object_place : Drawing → ℕ → ℕ
+abbrev pub object_place : PlanData → ℕ → ℕ
 object_place p i = get_or (places_of Fea p) i 0
 
 -- an object that another is equal to is among the objects
-pub no_such_object : (p : Drawing) (place : ℕ) → ¬ (Contains (places_of Fea p) place) → (k : ℕ) → ¬ (IsEqualObject p place k)
+pub no_such_object : (p : PlanData) (place : ℕ) → ¬ (Contains (places_of Fea p) place) → (k : ℕ) → ¬ (IsEqualObject p place k)
 no_such_object p place none k h =
     let at = has_place Fea p place h.1.second h.1.second_object in
     none (subst (Contains (places_of Fea p)) at.2 (Contains-get_or (places_of Fea p) at.0 0 at.1))
 
-module _ (p : Drawing) (whole : IsWholePlan p) (l : ObjectSource) (keyed : AreKeyed p l) (member : ℕ) (there : member < length (places_of Fea p)) where
+module _ (p : PlanData) (whole : IsWholePlan p) (l : ObjectSource) (keyed : AreKeyed p l) (member : ℕ) (there : member < length (places_of Fea p)) where
   key_is : (i : ℕ) → i < length (places_of Fea p) → object_key_at l (object_place p i) ≡ object_key p keyed.number (object_place p i)
   key_is i h = sym (get_or-map (object_key_at l) (places_of Fea p) i 0 no_object h) ∙ (ap (λ ks. get_or ks i no_object) keyed.keys ∙ get_or-map (object_key p keyed.number) (places_of Fea p) i 0 no_object h)
 

@@ -2,7 +2,7 @@
 use Rattle.std.proofs.Common.{◌≡◌, ◌∙◌, ◌⊎◌, inl, inr, ℕ, ◌+◌, ◌-◌, ◌<◌, Bool, true, false, List, [], length, Option, Some, None, MatchOption, slice_get, sym, ap, subst, refl, arith}
 use Rattle.std.specs.List.{list_any}
 use Rattle.std.proofs.lemmas.Bool.{cases_order}
-use Rattle.edi_line.specs.Entry.{Entry, entries}
+use Rattle.edi_line.specs.ZoneData.{ZoneData, entries}
 use Rattle.edi_line.specs.declared.zone.Zone.{Zone}
 use Rattle.edi_record.specs.Texts.{is_semicolon}
 use Rattle.edi_schema.specs.Roles.{KindCodes, exchanged, role_rank}
@@ -21,17 +21,17 @@ pub with_match : {X : Type 0} (o : Option X) (P P' : Type 0) (Q Q' : X → Type 
 with_match (Some x) P P' Q Q' f g h = g x h
 with_match None P P' Q Q' f g h = f h
 
-module _ (groups : List (List Entry)) (kinds : KindCodes) where
+module _ (groups : List (List ZoneData)) (kinds : KindCodes) where
   -- ---- one record
 
-  pub class_here : (role : Role) (behind n : ℕ) (g : List Entry) → behind < n + 1 → slice_get groups n ≡ Some g → StatesClassOf kinds g role → IsClassBehind groups kinds role behind (n + 1)
+  pub class_here : (role : Role) (behind n : ℕ) (g : List ZoneData) → behind < n + 1 → slice_get groups n ≡ Some g → StatesClassOf kinds g role → IsClassBehind groups kinds role behind (n + 1)
   class_here role behind n g less there h =
       (less, (g, h.0, (omega arith, ap (slice_get groups) (omega arith) ∙ there), h.1, h.2, h.3))
 
-  pub states_here : (role : Role) (behind n : ℕ) (g : List Entry) → slice_get groups n ≡ Some g → IsClassBehind groups kinds role behind (n + 1) → StatesClassOf kinds g role
+  pub states_here : (role : Role) (behind n : ℕ) (g : List ZoneData) → slice_get groups n ≡ Some g → IsClassBehind groups kinds role behind (n + 1) → StatesClassOf kinds g role
   states_here role behind n g there h =
       let same : slice_get groups n ≡ Some h.1.0 = ap (slice_get groups) (omega arith) ∙ h.1.2.1 in
-      subst (λ (x : List Entry). StatesClassOf kinds x role) (same_some (sym same ∙ there)) (h.1.1, h.1.3, h.1.4, h.1.5)
+      subst (λ (x : List ZoneData). StatesClassOf kinds x role) (same_some (sym same ∙ there)) (h.1.1, h.1.3, h.1.4, h.1.5)
 
   -- where no group is left, none is behind those that have come
   pub none_left : (role : Role) (behind number : ℕ) (rest : List Zone) → length rest < 1 → IsLeftAt groups number rest
@@ -70,7 +70,7 @@ module _ (groups : List (List Entry)) (kinds : KindCodes) where
   pub type_holds : (role : Role) (n : ℕ) (h : IsClassOf groups kinds role n) → HoldsSemicolon groups n → list_any is_semicolon h.1.rty ≡ true
   type_holds role n h d =
       let group : d.0 ≡ h.0 = same_some (sym d.2 ∙ h.2.1) in
-      let rty : d.1 ≡ h.1.rty = same_some (sym d.3 ∙ (ap (λ (g : List Entry). Rattle.edi_line.specs.Entry.first (Rattle.edi_record.specs.Records.values (Rattle.std.specs.Prelude.codes "RTY") g)) group ∙ h.3.rty)) in
+      let rty : d.1 ≡ h.1.rty = same_some (sym d.3 ∙ (ap (λ (g : List ZoneData). Rattle.edi_line.specs.ZoneData.first (Rattle.edi_record.specs.Records.values (Rattle.std.specs.Prelude.codes "RTY") g)) group ∙ h.3.rty)) in
       sym (ap (list_any is_semicolon) rty) ∙ d.4
 
   pub type_lacks : (role : Role) (n : ℕ) (h : IsClassOf groups kinds role n) → ¬ (HoldsSemicolon groups n) → list_any is_semicolon h.1.rty ≡ false

@@ -3,7 +3,7 @@ use Rattle.std.proofs.Common.{◌≡◌, ◌≢◌, ◌⊎◌, ◌∙◌, ◌↔
 use Rattle.std.specs.Global.{Vec}
 use Rattle.std.specs.List.{Any, Contains}
 use Rattle.std.proofs.lemmas.List.Elements.{All-cons, All-contains, All-nil, All-push, Contains-append_left, Contains-append_right, Contains-push, Contains-push_cases}
-use Rattle.edi_line.specs.Entry.{Entry, first}
+use Rattle.edi_line.specs.ZoneData.{ZoneData, first}
 use Rattle.edi_line.specs.LineRules.{BreaksLineRule, IsZonesOf}
 use Rattle.edi_line.specs.Refusal.{IsUnbroken}
 use Rattle.edi_line.specs.Zones.{groups_of}
@@ -98,7 +98,7 @@ none_of_these ends home (Some x) (Some y) e f k one other two = absurd cc
 none_of_these ends home (Some x) None e f k one other two = none_of_one ends one other two x k
 
 -- of two sheets' reading there is one list of ends
-module _ (b : List ℕ) (unbroken : IsUnbroken (BreaksLineRule b)) (zones : List Entry) (read : IsZonesOf b zones) where
+module _ (b : List ℕ) (unbroken : IsUnbroken (BreaksLineRule b)) (zones : List ZoneData) (read : IsZonesOf b zones) where
   abbrev ends : List (List ℕ)
   ends = link_ends (groups_of zones)
 
@@ -137,12 +137,12 @@ module _ (p : PointerText) (text : List ℕ) (q : PointerText) (h : IsPointer te
     λ w. k.1 (w.2 ∙ ap (λ (x : PointerText). x.lot) (pointer_one text w.0 q w.1 h)),
   )
 
-ends_more : (come : List (List Entry)) (g : List Entry) → link_ends (come ++ g ∷ []) ≡ link_ends come ++ ends_of_record g
+ends_more : (come : List (List ZoneData)) (g : List ZoneData) → link_ends (come ++ g ∷ []) ≡ link_ends come ++ ends_of_record g
 ends_more come g = flat_map-append ends_of_record come (g ∷ []) ∙ ap (λ l. link_ends come ++ l) (append-nil (ends_of_record g))
 
 -- one record more
-module _ (pointer : Pointer) (ends later : LinkEnds) (g : List Entry) (taken : (list : List (List ℕ)) → AreEnds list ends → AreEnds (list ++ ends_of_record g) later) (was is : Bool) where
-  pub take_named : (IsTrue is ↔ (IsTrue was ⊎ IsNamedBy (shown pointer) g)) → (groups : List (List Entry))
+module _ (pointer : Pointer) (ends later : LinkEnds) (g : List ZoneData) (taken : (list : List (List ℕ)) → AreEnds list ends → AreEnds (list ++ ends_of_record g) later) (was is : Bool) where
+  pub take_named : (IsTrue is ↔ (IsTrue was ⊎ IsNamedBy (shown pointer) g)) → (groups : List (List ZoneData))
       → IsSoughtName (record { pointer = pointer; ends = ends; is_there = was }) groups
       → IsSoughtName (record { pointer = pointer; ends = later; is_there = is }) (groups ++ g ∷ [])
   take_named k [] h = absurd h
@@ -161,7 +161,7 @@ module _ (pointer : Pointer) (ends later : LinkEnds) (g : List Entry) (taken : (
       from (inr n) = inr n
 
 -- a record that is found, and one that isn't
-module _ (p : PointerText) (come : List (List Entry)) where
+module _ (p : PointerText) (come : List (List ZoneData)) where
   module _ (home : Vec ℕ) (ends : LinkEnds) (is : ends.home ≡ Some home) (h : AreEnds (link_ends come) ends) where
     leads_by : (o s : Option (Vec ℕ)) → o ≡ Some home → EndsAre (link_ends come) o s → first (link_ends come) ≡ Some home.items
     leads_by None s e k = absurd cc
@@ -186,7 +186,7 @@ module _ (p : PointerText) (come : List (List Entry)) where
 
 -- the records of a sheet are read in one way
 module _ (b : List ℕ) (p : PointerText) where
-  pub named_in_file : IsUnbroken (BreaksLineRule b) → (zones : List Entry) → IsZonesOf b zones → (t : Bool) → IsTrue t ↔ HasNamedAmong (groups_of zones) p → IsTrue t ↔ HasNamed b p
+  pub named_in_file : IsUnbroken (BreaksLineRule b) → (zones : List ZoneData) → IsZonesOf b zones → (t : Bool) → IsTrue t ↔ HasNamedAmong (groups_of zones) p → IsTrue t ↔ HasNamed b p
   named_in_file unbroken zones read t k = (
     λ i. record { unbroken = unbroken; zones = zones; read = read; among = k.0 i },
     λ h. k.1 (subst (λ z. HasNamedAmong (groups_of z) p) (zones_of_one b h.zones zones h.read read) h.among),
@@ -194,7 +194,7 @@ module _ (b : List ℕ) (p : PointerText) where
 
 -- ---- the pointer that stands in front
 
-abbrev value_at : ℕ → List Entry → List ℕ
+abbrev value_at : ℕ → List ZoneData → List ℕ
 value_at n zones = (get_or zones n (sign_zone [])).value
 
 pub signed : (p q : PointerText) → sign_of p ≡ sign_of q → p ≡ q

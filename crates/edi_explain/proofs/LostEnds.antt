@@ -9,7 +9,7 @@ use Rattle.std.proofs.lemmas.List.Quantifiers.{Any-push}
 use Rattle.std.proofs.lemmas.Map.Views.{Contains-from_any, list_any-from_Contains}
 use Rattle.std.proofs.lemmas.Slice.Eq.{bytes_eq-Decides}
 use Rattle.indexmap.specs.IndexSet.{insert_key}
-use Rattle.edi_line.specs.Entry.{Entry, entries, entry, first}
+use Rattle.edi_line.specs.ZoneData.{ZoneData, entries, entry, first}
 use Rattle.edi_line.specs.declared.zone.Zone.{Zone}
 use Rattle.edi_record.specs.Records.{values}
 use Rattle.edi_record.specs.Texts.{IsPointer, PointerText}
@@ -88,7 +88,7 @@ name_is (x ∷ xs) z rid name less at leads is p = (into, from)
           sym leads ∙ ap (λ (n : Name). Some n.rid) same,
         )
 
-module _ (groups : List (List Entry)) (g : List Entry) (names : List Name) (h : AreNamesOf groups names) where
+module _ (groups : List (List ZoneData)) (g : List ZoneData) (names : List Name) (h : AreNamesOf groups names) where
   pub names_more : (later : List Name) (name : Name) → later ≡ insert_key is_name names name → ((p : PointerText) → IsNamedBy p g ↔ (Some name ≡ Some (pointed_name p)))
       → AreNamesOf (groups ++ g ∷ []) later
   names_more later name put own p = (
@@ -120,15 +120,15 @@ no_names names e p = (
   λ a. absurd (nothing_there (IsNamedBy p) a),
 )
 
-pub identifiers_more : (groups : List (List Entry)) (g : List Entry) (o : Option (List ℕ)) → o ≡ first (values (codes "RID") g)
+pub identifiers_more : (groups : List (List ZoneData)) (g : List ZoneData) (o : Option (List ℕ)) → o ≡ first (values (codes "RID") g)
     → identifiers (groups ++ g ∷ []) ≡ identifiers groups ++ option_to_list o
 identifiers_more groups g o e =
-    let one = λ (group : List Entry). option_to_list (first (values (codes "RID") group)) in
+    let one = λ (group : List ZoneData). option_to_list (first (values (codes "RID") group)) in
     flat_map-append one groups (g ∷ []) ∙ ap (λ l. identifiers groups ++ l) (append-nil (one g) ∙ ap option_to_list (sym e))
 
 -- ---- ends
 
-module _ (groups : List (List Entry)) (names : List Name) (h : AreNamesOf groups names) (text : List ℕ) (p : PointerText) (is : IsPointer text p) where
+module _ (groups : List (List ZoneData)) (names : List Name) (h : AreNamesOf groups names) (text : List ℕ) (p : PointerText) (is : IsPointer text p) where
   pub of_links : p.rty ≡ codes "LNK" → NamesNoElement groups text
   of_links e = (p, is, inl e)
 

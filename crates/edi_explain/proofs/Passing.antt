@@ -3,7 +3,7 @@ use Rattle.std.proofs.Common.{◌≡◌, ◌∙◌, ◌↔◌, ◌+◌, ◌-◌,
 use Rattle.std.specs.Bool.{MatchBool}
 use Rattle.std.proofs.lemmas.List.{length-map, length-drop, take-map, drop-map, take_all, get_or-map}
 use Rattle.std.proofs.lemmas.Option.{slice_get_read}
-use Rattle.edi_line.specs.Entry.{Entry, entry, entries}
+use Rattle.edi_line.specs.ZoneData.{ZoneData, entry, entries}
 use Rattle.edi_line.specs.declared.zone.Zone.{Zone}
 use Rattle.edi_record.specs.RecordRules.{IsNoPointer}
 use Rattle.edi_record.specs.Texts.{IsCount, IsPointer, IsPosition, PointerText, shown}
@@ -43,7 +43,7 @@ module _ (zs : List Zone) (place : ℕ) (z : Zone) (less : place < length zs) (i
       slice_get_read (entries zs) (length zs) place (entry z) (sym (length-map zs entry)) less
       (ap entry is ∙ sym (get_or-map entry zs place z (entry z) less))
 
-pub same_entry : (a b : Entry) → Some a ≡ Some b → a ≡ b
+pub same_entry : (a b : ZoneData) → Some a ≡ Some b → a ≡ b
 same_entry a b e = cc
 
 module _ (zs : List Zone) (place : ℕ) (z : Zone) (test : ZoneTest) (less : place < length zs) (is : z ≡ get_or zs place z) where
@@ -81,6 +81,6 @@ module _ (zs : List Zone) (place : ℕ) (z : Zone) (test : ZoneTest) (less : pla
 same_test : (a b : ZoneTest) → Some a ≡ Some b → a ≡ b
 same_test a b e = cc
 
-pub no_zone_found : (group : List Entry) (rule : ℕ) (test : ZoneTest) → test_of rule ≡ Some test → ((z : Entry) → ¬ (IsFirstPassing test group z))
-    → (z : Entry) (count : Option ℕ) → ¬ (IsBreakingZoneOf group rule z count)
+pub no_zone_found : (group : List ZoneData) (rule : ℕ) (test : ZoneTest) → test_of rule ≡ Some test → ((z : ZoneData) → ¬ (IsFirstPassing test group z))
+    → (z : ZoneData) (count : Option ℕ) → ¬ (IsBreakingZoneOf group rule z count)
 no_zone_found group rule test t h z count k = h z (subst (λ x. IsFirstPassing x group z) (same_test k.0 test (sym k.1 ∙ t)) k.2)

@@ -1,6 +1,6 @@
 -- What holds of a sheet that is refused at a record: no rule of an earlier phase is broken.
 use Rattle.std.proofs.Common.{◌<◌, ◌≤◌, inl, inr, ℕ, List, arith}
-use Rattle.edi_line.specs.Entry.{Entry}
+use Rattle.edi_line.specs.ZoneData.{ZoneData}
 use Rattle.edi_line.specs.LineRules.{BreaksLineRule}
 use Rattle.edi_line.specs.Refusal.{IsLeastBroken}
 use Rattle.edi_line.specs.declared.fault.LineFault.TheVariants as line
@@ -25,7 +25,7 @@ use Rattle.edi_compare.specs.declared.fault.Fault.TheVariants.{Entry as AtRecord
 use Rattle.edi_explain.specs.inner.Found.{IsEarly, IsEarlyRule}
 use Rattle.edi_compare.proofs.Phases.{line_refusal, object_refusal, record_refusal, reference_refusal, topology_refusal}
 
-group_below : (group : List Entry) (rule : ℕ) → BreaksGroupRule group rule → rule < 300
+group_below : (group : List ZoneData) (rule : ℕ) → BreaksGroupRule group rule → rule < 300
 group_below group rule (lacks_kind e h) = omega (arith, e)
 group_below group rule (lacks_identifier e h) = omega (arith, e)
 group_below group rule (lacks_record_class e h) = omega (arith, e)

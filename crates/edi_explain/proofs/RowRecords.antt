@@ -4,7 +4,7 @@ use Rattle.std.specs.Prelude.{IsSomeAnd}
 use Rattle.std.specs.List.{AllZip}
 use Rattle.std.proofs.lemmas.Option.{slice_get-get_or, slice_get_within}
 use Rattle.std.proofs.lemmas.Slice.Zip.{AllZip-left, AllZip-right}
-use Rattle.edi_line.specs.Entry.{Entry, has_code}
+use Rattle.edi_line.specs.ZoneData.{ZoneData, has_code}
 use Rattle.edi_line.specs.Made.{AreMadeFrom}
 use Rattle.edi_record.specs.Records.{IsEndAt, States, first, is_link, points_at, values}
 use Rattle.edi_record.specs.Shapes.{kind_code}
@@ -27,10 +27,10 @@ some_and P None h = absurd h
 
 -- ---- a group and its record
 
-named_record : (g : List Entry) (r : Record) → States g r → IsNamed g (own_name r)
+named_record : (g : List ZoneData) (r : Record) → States g r → IsNamed g (own_name r)
 named_record g r h = record { rty = ap first h.type; rid = ap first h.rid }
 
-one_name : (g : List Entry) (name : Name) (r : Record) → IsNamed g name → States g r → name ≡ own_name r
+one_name : (g : List ZoneData) (name : Name) (r : Record) → IsNamed g name → States g r → name ≡ own_name r
 one_name g name r n h =
     let own = named_record g r h in
     let rty : name.rty ≡ (own_name r).rty = same_some (sym n.rty ∙ own.rty) in
@@ -38,19 +38,19 @@ one_name g name r n h =
     λ i. record { rty = rty i; rid = rid i }
 
 -- the ends of these zones
-ends_there : (front zs : List Entry) (items : List End) → AreMadeFrom (λ f z. points_at z ≡ true) IsEndAt front zs items → 0 < length items
+ends_there : (front zs : List ZoneData) (items : List End) → AreMadeFrom (λ f z. points_at z ≡ true) IsEndAt front zs items → 0 < length items
     → (text : List ℕ) × (first (values (codes "FTP") zs) ≡ Some text)
 ends_there front [] items h some = absurd (omega (arith, ap length h, some))
-ends_there front (z ∷ zs) items (inl h) some = (z.value, ap (λ (b : Bool). first (map (λ (x : Entry). x.value) (cond b (z ∷ filter (has_code (codes "FTP")) zs) (filter (has_code (codes "FTP")) zs)))) h.2)
+ends_there front (z ∷ zs) items (inl h) some = (z.value, ap (λ (b : Bool). first (map (λ (x : ZoneData). x.value) (cond b (z ∷ filter (has_code (codes "FTP")) zs) (filter (has_code (codes "FTP")) zs)))) h.2)
 ends_there front (z ∷ zs) items (inr h) some =
     let more = ends_there (front ++ z ∷ []) zs items h.1 some in
     (more.0, skipped more.0 (points_at z) refl h.0 more.1)
   where
     skipped : (text : List ℕ) (b : Bool) → points_at z ≡ b → ¬ (points_at z ≡ true) → first (values (codes "FTP") zs) ≡ Some text → first (values (codes "FTP") (z ∷ zs)) ≡ Some text
     skipped text true e not is = absurd (not e)
-    skipped text false e not is = ap (λ (b : Bool). first (map (λ (x : Entry). x.value) (cond b (z ∷ filter (has_code (codes "FTP")) zs) (filter (has_code (codes "FTP")) zs)))) e ∙ is
+    skipped text false e not is = ap (λ (b : Bool). first (map (λ (x : ZoneData). x.value) (cond b (z ∷ filter (has_code (codes "FTP")) zs) (filter (has_code (codes "FTP")) zs)))) e ∙ is
 
-there_ends : (front zs : List Entry) (items : List End) (text : List ℕ) → first (values (codes "FTP") zs) ≡ Some text
+there_ends : (front zs : List ZoneData) (items : List End) (text : List ℕ) → first (values (codes "FTP") zs) ≡ Some text
     → AreMadeFrom (λ f z. points_at z ≡ true) IsEndAt front zs items → 0 < length items
 there_ends front [] items text e h = absurd cc
 there_ends front (z ∷ zs) items text e (inl h) = omega (arith, ap length h.4)
@@ -58,7 +58,7 @@ there_ends front (z ∷ zs) items text e (inr h) = there_ends (front ++ z ∷ []
   where
     skipped : (b : Bool) → points_at z ≡ b → ¬ (points_at z ≡ true) → first (values (codes "FTP") zs) ≡ Some text
     skipped true is not = absurd (not is)
-    skipped false is not = sym (ap (λ (b : Bool). first (map (λ (x : Entry). x.value) (cond b (z ∷ filter (has_code (codes "FTP")) zs) (filter (has_code (codes "FTP")) zs)))) is) ∙ e
+    skipped false is not = sym (ap (λ (b : Bool). first (map (λ (x : ZoneData). x.value) (cond b (z ∷ filter (has_code (codes "FTP")) zs) (filter (has_code (codes "FTP")) zs)))) is) ∙ e
 
 link_kind : (k : Kind) → is_link k ≡ true → k ≡ Lnk
 link_kind Rattle.edi_record.specs.declared.record.Kind.TheVariants.Pno e = absurd cc
@@ -67,7 +67,7 @@ link_kind Rattle.edi_record.specs.declared.record.Kind.TheVariants.Pfe e = absur
 link_kind Rattle.edi_record.specs.declared.record.Kind.TheVariants.Fea e = absurd cc
 link_kind Lnk e = refl
 
-link_has : (g : List Entry) (q : Record) → States g q → 0 < length q.ends → IsLinked g
+link_has : (g : List ZoneData) (q : Record) → States g q → 0 < length q.ends → IsLinked g
 link_has g q h some = go (is_link q.kind) refl
   where
     go : (b : Bool) → is_link q.kind ≡ b → IsLinked g
@@ -78,19 +78,19 @@ link_has g q h some = go (is_link q.kind) refl
         let none : q.ends ≡ [] = subst (λ b. AreMadeFrom (λ f z. points_at z ≡ true) IsEndAt [] (cond b g []) q.ends) e h.ends in
         absurd (omega (arith, ap length none, some))
 
-has_link : (g : List Entry) (q : Record) → States g q → IsLinked g → 0 < length q.ends
+has_link : (g : List ZoneData) (q : Record) → States g q → IsLinked g → 0 < length q.ends
 has_link g q h d =
     let kind : q.kind ≡ Lnk = one_code q.kind Lnk (same_some (sym (ap first h.type) ∙ d.1)) in
     there_ends [] g q.ends d.0 d.2 (subst (λ b. AreMadeFrom (λ f z. points_at z ≡ true) IsEndAt [] (cond b g []) q.ends) (ap is_link kind) h.ends)
 
 -- ---- all of them
 
-module _ (groups : List (List Entry)) (list : List Record) (all : AllZip States groups list) where
-  record_of : (k : ℕ) (g : List Entry) → slice_get groups k ≡ Some g → (r : Record) × (slice_get list k ≡ Some r) × States g r
+module _ (groups : List (List ZoneData)) (list : List Record) (all : AllZip States groups list) where
+  record_of : (k : ℕ) (g : List ZoneData) → slice_get groups k ≡ Some g → (r : Record) × (slice_get list k ≡ Some r) × States g r
   record_of k g at = some_and (States g) (slice_get list k)
       (subst (λ o. MatchOption o (Unit {0}) (λ x. IsSomeAnd (slice_get list k) (States x))) at (AllZip-left States groups list all k))
 
-  group_of : (k : ℕ) (r : Record) → slice_get list k ≡ Some r → (g : List Entry) × (slice_get groups k ≡ Some g) × States g r
+  group_of : (k : ℕ) (r : Record) → slice_get list k ≡ Some r → (g : List ZoneData) × (slice_get groups k ≡ Some g) × States g r
   group_of k r at = some_and (λ g. States g r) (slice_get groups k)
       (subst (λ o. MatchOption o (Unit {0}) (λ y. IsSomeAnd (slice_get groups k) (λ x. States x y))) at (AllZip-right States groups list all k))
 

@@ -2,7 +2,7 @@
 use Rattle.std.specs.Prelude.{◌≡◌, ◌≢◌, ◌⊎◌, ◌==◌, ◌&&◌, ℕ, suc, Bool, false, true, List, [], ◌∷◌, count_by, take, drop}
 use Rattle.std.specs.Prelude.{Option, Some, None, bytes_eq, codes, if◌then◌else◌, option_map, slice_get}
 use Rattle.std.specs.List.{list_any}
-use Rattle.edi_line.specs.Entry.{Entry, has_code}
+use Rattle.edi_line.specs.ZoneData.{ZoneData, has_code}
 use Rattle.edi_line.specs.Zones.{groups_of}
 use Rattle.edi_record.specs.RecordRules.{IsNoPointer, is_identifier}
 use Rattle.edi_record.specs.Bytes.{letter_p}
@@ -38,12 +38,12 @@ test_of rule =
     else None
 
 -- the first zone of a record states this type
-abbrev pub is_typed : List ℕ → List Entry → Bool
+abbrev pub is_typed : List ℕ → List ZoneData → Bool
 is_typed rty [] = false
 is_typed rty (z ∷ zs) = bytes_eq z.value rty
 
 -- the code of the zones that a zone with this code counts: attributes; points of an arc; ends of a link
-abbrev pub counted_by : List Entry → List ℕ → Option (List ℕ)
+abbrev pub counted_by : List ZoneData → List ℕ → Option (List ℕ)
 counted_by group code =
     if bytes_eq code (codes "ATC") then Some (codes "ATP")
     else if bytes_eq code (codes "PTC") && is_typed (codes "PAR") group then Some (codes "COR")
@@ -51,7 +51,7 @@ counted_by group code =
     else None
 
 -- a zone has a code, and one of those before it has that code
-abbrev pub IsSecond : List ℕ → List Entry → Entry → Type 0
+abbrev pub IsSecond : List ℕ → List ZoneData → ZoneData → Type 0
 IsSecond code front z = (has_code code z ≡ true) × (list_any (has_code code) front ≡ true)
 
 -- a pointer names a record of this type
@@ -59,7 +59,7 @@ abbrev pub NamesType : List ℕ → List ℕ → Type 0
 NamesType rty text = (p : PointerText) × IsPointer text p × (p.rty ≡ rty)
 
 -- a zone of format `P` that isn't empty, and whose code isn't known in records of the type
-abbrev pub IsUnknownPointer : List Entry → List Entry → Entry → Type 0
+abbrev pub IsUnknownPointer : List ZoneData → List ZoneData → ZoneData → Type 0
 IsUnknownPointer group front z = ((kind : Kind) × (is_typed (kind_code kind) group ≡ true) × IsExtraAt kind front z)
     × (z.format ≡ letter_p) × (z.value ≢ [])
 
@@ -68,7 +68,7 @@ IsUnknownPointer group front z = ((kind : Kind) × (is_typed (kind_code kind) gr
 -- pointer, or a second SCP; it counts zones and isn't their count, or is a second one with its code; it is a COR
 -- and no position, or a second COR of a node; it is a pointer that isn't empty and is unknown in records of the
 -- type; it is an end that names a record of a type.
-abbrev pub Passes : List Entry → List Entry → Entry → List Entry → ZoneTest → Type 0
+abbrev pub Passes : List ZoneData → List ZoneData → ZoneData → List ZoneData → ZoneTest → Type 0
 Passes group front z behind (OfCode code) = has_code code z ≡ true
 Passes group front z behind (LastOf code) = (has_code code z ≡ true) × (list_any (has_code code) behind ≡ false)
 Passes group front z behind BadIdentifier =
@@ -85,25 +85,25 @@ Passes group front z behind UnknownPointer = IsUnknownPointer group front z
 Passes group front z behind (EndOf rty) = (has_code (codes "FTP") z ≡ true) × NamesType rty z.value
 
 -- the zone at a place of a record passes the test; places are from 0
-abbrev pub PassesAt : ZoneTest → List Entry → ℕ → Type 0
-PassesAt test group place = (z : Entry) × (slice_get group place ≡ Some z)
+abbrev pub PassesAt : ZoneTest → List ZoneData → ℕ → Type 0
+PassesAt test group place = (z : ZoneData) × (slice_get group place ≡ Some z)
     × Passes group (take place group) z (drop (suc place) group) test
 
 -- the first zone of a record that passes the test
-abbrev pub IsFirstPassing : ZoneTest → List Entry → Entry → Type 0
+abbrev pub IsFirstPassing : ZoneTest → List ZoneData → ZoneData → Type 0
 IsFirstPassing test group z = (place : ℕ) × IsLeast (PassesAt test group) place × (slice_get group place ≡ Some z)
 
 -- how many zones there are that a zone with this code counts, if it counts any
-abbrev pub count_beside : List Entry → List ℕ → Option ℕ
+abbrev pub count_beside : List ZoneData → List ℕ → Option ℕ
 count_beside group code = option_map (λ counted. count_by (has_code counted) group) (counted_by group code)
 
 -- the zone with which a record breaks a rule: the first that passes the test of the rule; and how many zones it should
 -- count
-abbrev pub IsBreakingZoneOf : List Entry → ℕ → Entry → Option ℕ → Type 0
+abbrev pub IsBreakingZoneOf : List ZoneData → ℕ → ZoneData → Option ℕ → Type 0
 IsBreakingZoneOf group rule z count = (test : ZoneTest) × (test_of rule ≡ Some test) × IsFirstPassing test group z
     × (count ≡ count_beside group z.code)
 
 -- the same of the record with this number, from 1
-abbrev pub IsBreakingZone : List Entry → ℕ → ℕ → Entry → Option ℕ → Type 0
-IsBreakingZone zones rule number z count = (place : ℕ) × (group : List Entry) × (number ≡ suc place)
+abbrev pub IsBreakingZone : List ZoneData → ℕ → ℕ → ZoneData → Option ℕ → Type 0
+IsBreakingZone zones rule number z count = (place : ℕ) × (group : List ZoneData) × (number ≡ suc place)
     × (slice_get (groups_of zones) place ≡ Some group) × IsBreakingZoneOf group rule z count

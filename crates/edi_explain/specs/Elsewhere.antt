@@ -1,6 +1,6 @@
 -- Records of the other VEC files of a lot, at which links of a sheet point.
 use Rattle.std.specs.Prelude.{◌≡◌, ◌++◌, ℕ, List, [], ◌∷◌, Some, All, Any, codes, flat_map, if◌then◌else◌}
-use Rattle.edi_line.specs.Entry.{Entry, first}
+use Rattle.edi_line.specs.ZoneData.{ZoneData, first}
 use Rattle.edi_line.specs.LineRules.{BreaksLineRule, IsZonesOf}
 use Rattle.edi_line.specs.Refusal.{IsUnbroken}
 use Rattle.edi_line.specs.Zones.{groups_of}
@@ -12,11 +12,11 @@ use Rattle.edi_explain.specs.Hints.{hint_line}
 use Rattle.edi_shown.specs.Shown.{shown_bytes}
 
 -- the ends of a record, if it is a link
-abbrev pub ends_of_record : List Entry → List (List ℕ)
+abbrev pub ends_of_record : List ZoneData → List (List ℕ)
 ends_of_record group = if is_typed (codes "LNK") group then values (codes "FTP") group else []
 
 -- the ends of all links of these records, in their order
-abbrev pub link_ends : List (List Entry) → List (List ℕ)
+abbrev pub link_ends : List (List ZoneData) → List (List ℕ)
 link_ends groups = flat_map ends_of_record groups
 
 -- Of these ends the first, by whose lot and subset all others are judged, and the first that is of another lot or
@@ -32,7 +32,7 @@ pub record AreStrayEnds (ends : List (List ℕ)) (home stray : List ℕ) : Type 
 -- the same of the links of a sheet
 pub record HasStrayEnds (b home stray : List ℕ) : Type 0 where
   pub unbroken : IsUnbroken (BreaksLineRule b)
-  pub zones : List Entry
+  pub zones : List ZoneData
   pub read : IsZonesOf b zones
   pub ends : AreStrayEnds (link_ends (groups_of zones)) home stray
 
@@ -42,7 +42,7 @@ AreTogether p text = (q : PointerText) × IsPointer text q × (p.lot ≡ q.lot) 
 
 -- these records have the one that a pointer names: the first end of their links is of that lot and subset, and one of
 -- them has that type and identifier
-pub record HasNamedAmong (groups : List (List Entry)) (p : PointerText) : Type 0 where
+pub record HasNamedAmong (groups : List (List ZoneData)) (p : PointerText) : Type 0 where
   pub home : List ℕ
   pub leads : first (link_ends groups) ≡ Some home
   pub together : AreTogether p home
@@ -51,7 +51,7 @@ pub record HasNamedAmong (groups : List (List Entry)) (p : PointerText) : Type 0
 -- the same of the records of a sheet
 pub record HasNamed (b : List ℕ) (p : PointerText) : Type 0 where
   pub unbroken : IsUnbroken (BreaksLineRule b)
-  pub zones : List Entry
+  pub zones : List ZoneData
   pub read : IsZonesOf b zones
   pub among : HasNamedAmong (groups_of zones) p
 

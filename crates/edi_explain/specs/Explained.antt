@@ -4,7 +4,7 @@ use Rattle.edi_line.specs.Bytes.{line_feed}
 use Rattle.edi_line.specs.Number.{plain_text}
 use Rattle.edi_record.specs.declared.record.Kind.{Kind}
 use Rattle.edi_record.specs.declared.record.Kind.TheVariants.{Pno, Par, Pfe, Fea, Lnk}
-use Rattle.edi_plan.specs.Plans.{Drawing, same_kind}
+use Rattle.edi_plan.specs.Plans.{PlanData, same_kind}
 use Rattle.edi_schema.specs.Classes.{Classes}
 use Rattle.edi_schema.specs.Roles.{KindCodes}
 use Rattle.edi_schema.specs.declared.fault.Source.{Source}
@@ -103,10 +103,10 @@ abbrev pub worded_line : List ℕ → List ℕ → List ℕ
 worded_line words sentence = words ++ sentence ++ line_feed ∷ []
 
 -- how many records of a type a plan has, behind a word
-abbrev pub count_line : Drawing → List ℕ → Kind → List ℕ
+abbrev pub count_line : PlanData → List ℕ → Kind → List ℕ
 count_line p word kind = word ++ codes ": " ++ decimal (count_by (λ r. same_kind kind r.kind) p.list) ++ line_feed ∷ []
 
-abbrev pub count_lines : Drawing → List ℕ
+abbrev pub count_lines : PlanData → List ℕ
 count_lines p = count_line p (codes "nodes") Pno ++ count_line p (codes "arcs") Par ++ count_line p (codes "faces") Pfe
     ++ count_line p (codes "objects") Fea ++ count_line p (codes "links") Lnk
 
@@ -125,7 +125,7 @@ charset_line (Some charset) = worded_line (codes "character set: ") (shown_bytes
 charset_line None = worded_line (codes "character set: ") (codes "none")
 
 -- The lines on an accepted sheet: its records by type, its extent where it has points, and its character set.
-abbrev pub DescribesPlan : Drawing → List ℕ → Type 0
+abbrev pub DescribesPlan : PlanData → List ℕ → Type 0
 DescribesPlan p lines =
     (extent : Option Extent) × IsExtentIfAny (points_of p) extent
     × (lines ≡ count_lines p ++ extent_lines extent ++ charset_line p.cse)

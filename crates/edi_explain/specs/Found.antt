@@ -1,6 +1,6 @@
 -- A refusal with the earlier record and the node that its rule speaks of.
 use Rattle.std.specs.Prelude.{◌≡◌, ◌-◌, ℕ, List, Option, None, IfSome}
-use Rattle.edi_line.specs.Entry.{entries}
+use Rattle.edi_line.specs.ZoneData.{entries}
 use Rattle.edi_line.specs.LineRules.{IsZonesOf}
 use Rattle.edi_schema.specs.Classes.{Classes}
 use Rattle.edi_compare.specs.Refused.{IsRefusal}

@@ -2,7 +2,7 @@
 use Rattle.std.specs.Prelude.{◌≡◌, ◌⊎◌, ◌-◌, ◌<◌, ℕ, true, false, List, [], Option, Some, None}
 use Rattle.std.specs.List.{list_any}
 use Rattle.std.proofs.Common.{Bor}
-use Rattle.edi_line.specs.Entry.{Entry}
+use Rattle.edi_line.specs.ZoneData.{ZoneData}
 use Rattle.edi_record.specs.Texts.{is_semicolon}
 use Rattle.edi_schema.specs.Roles.{KindCodes, exchanged, role_rank}
 use Rattle.edi_schema.specs.SchemaRules.{HasRole}
@@ -35,7 +35,7 @@ IsBefore case role cause =
     (case_rank case < case_rank cause.case) ⊎ ((case ≡ cause.case) × (role_rank role < role_rank cause.role))
 
 -- over the records of the file, which have numbers from 1, and the codes of the kinds
-module _ (groups : List (List Entry)) (kinds : KindCodes) where
+module _ (groups : List (List ZoneData)) (kinds : KindCodes) where
   -- the record of this number states a class of a kind
   abbrev pub IsClassOf : Role → ℕ → Type 0
   IsClassOf role n = HasRole groups [] kinds n role

@@ -1,7 +1,7 @@
 -- What is said of the classes of the four kinds of links.
 use Rattle.std.specs.Prelude.{◌↔◌, Bool, true, false, IsTrue, ◌≡◌, ◌++◌, ℕ, List, [], ◌∷◌, Option, Some, None, codes}
 use Rattle.edi_line.specs.Bytes.{line_feed}
-use Rattle.edi_line.specs.Entry.{Entry}
+use Rattle.edi_line.specs.ZoneData.{ZoneData}
 use Rattle.edi_line.specs.LineRules.{IsZonesOf}
 use Rattle.edi_line.specs.Zones.{groups_of}
 use Rattle.edi_schema.specs.Roles.{KindCodes, exchanged}
@@ -40,17 +40,17 @@ wrong_words Barred role =
 -- first, with what is wrong, and that of the earlier class of its kind where there are two.
 abbrev pub ExplainsKinds : KindCodes → List ℕ → List ℕ → List ℕ → Type 0
 ExplainsKinds kinds scd name lines =
-    (zones : List Entry) × (cause : KindsCause) × (sites : Refused) × IsZonesOf scd zones
+    (zones : List ZoneData) × (cause : KindsCause) × (sites : Refused) × IsZonesOf scd zones
     × IsKindsCause (groups_of zones) kinds cause × AreSites zones cause.number cause.earlier sites
     × (lines ≡ lines_of_sites name sites (wrong_words cause.case cause.role) 604)
 
 -- where the record with a number stands, if there is a number
-abbrev pub IsNumberedSite : List Entry → Option ℕ → Option RecordSite → Type 0
+abbrev pub IsNumberedSite : List ZoneData → Option ℕ → Option RecordSite → Type 0
 IsNumberedSite zones (Some number) site = IsSiteIfAny zones number site
 IsNumberedSite zones None site = site ≡ None
 
 -- where the first class of a kind stands, if the kind has one
-abbrev pub IsClassSite : List Entry → KindCodes → Role → Option RecordSite → Type 0
+abbrev pub IsClassSite : List ZoneData → KindCodes → Role → Option RecordSite → Type 0
 IsClassSite zones kinds role site =
     (number : Option ℕ) × IsLeastIfAny (IsClassBehind (groups_of zones) kinds role 0) number
     × IsNumberedSite zones number site
@@ -67,14 +67,14 @@ class_line name role site = kind_words role ++ codes ": " ++ class_place name si
 -- The lines on the four kinds: the class of each in a file with this name, or that it has none.
 abbrev pub DescribesKinds : KindCodes → List ℕ → List ℕ → List ℕ → Type 0
 DescribesKinds kinds scd name lines =
-    (zones : List Entry) × (initial final left right : Option RecordSite) × IsZonesOf scd zones
+    (zones : List ZoneData) × (initial final left right : Option RecordSite) × IsZonesOf scd zones
     × IsClassSite zones kinds Initial initial × IsClassSite zones kinds Final final × IsClassSite zones kinds Left left
     × IsClassSite zones kinds Right right
     × (lines ≡ class_line name Initial initial ++ class_line name Final final ++ class_line name Left left
     ++ class_line name Right right)
 
 -- which of the four kinds have no class among the records of the file
-pub record AreLacking (groups : List (List Entry)) (kinds : KindCodes) (lacking : ByRole Bool) : Type 0 where
+pub record AreLacking (groups : List (List ZoneData)) (kinds : KindCodes) (lacking : ByRole Bool) : Type 0 where
   pub initial : IsTrue lacking.initial ↔ ((n : ℕ) → ¬ (IsClassOf groups kinds Initial n))
   pub final_node : IsTrue lacking.final_node ↔ ((n : ℕ) → ¬ (IsClassOf groups kinds Final n))
   pub left : IsTrue lacking.left ↔ ((n : ℕ) → ¬ (IsClassOf groups kinds Left n))
@@ -98,5 +98,5 @@ lacking_words lacking =
 -- The words for the kinds that have no class in a file, with commas between them.
 abbrev pub NameLacking : KindCodes → List ℕ → List ℕ → Type 0
 NameLacking kinds scd words =
-    (zones : List Entry) × (lacking : ByRole Bool) × IsZonesOf scd zones × AreLacking (groups_of zones) kinds lacking
+    (zones : List ZoneData) × (lacking : ByRole Bool) × IsZonesOf scd zones × AreLacking (groups_of zones) kinds lacking
     × (words ≡ lacking_words lacking)

@@ -4,7 +4,7 @@ use Rattle.edi_record.specs.declared.record.Kind.TheVariants.{Par}
 use Rattle.edi_record.specs.declared.record.Point.{Point}
 use Rattle.edi_record.specs.declared.record.Record.{Record}
 use Rattle.edi_plan.specs.PlanOf.{own_name}
-use Rattle.edi_plan.specs.Plans.{Drawing}
+use Rattle.edi_plan.specs.Plans.{PlanData}
 use Rattle.edi_plan.specs.ReferenceRules.{IsLinkOfRole, Names}
 use Rattle.edi_schema.specs.Classes.{Classes}
 use Rattle.edi_schema.specs.declared.role.Role.{Role}
@@ -43,15 +43,15 @@ SharesSide s list place m =
     × (role ≢ Plain) × IsLinkOfRole s list q role × IsLinkOfRole s list r role × ShareArc s list q r
 
 -- of rule 403: an earlier node equal to the one at this place
-abbrev pub IsEqualNode : Drawing → ℕ → ℕ → Type 0
+abbrev pub IsEqualNode : PlanData → ℕ → ℕ → Type 0
 IsEqualNode p place m = (m < place) × AreEqualNodes p m place
 
 -- of rule 405: an earlier arc with the points of the one at this place, in either direction
-abbrev pub SharesPoints : Drawing → ℕ → ℕ → Type 0
+abbrev pub SharesPoints : PlanData → ℕ → ℕ → Type 0
 SharesPoints p place m =
     (earlier points : List Point) × (m < place) × HasPoints p Par m earlier × HasPoints p Par place points
     × ((points ≡ earlier) ⊎ (points ≡ reverse earlier))
 
 -- of rule 501: an earlier object equal to the one at this place
-abbrev pub IsEqualObject : Drawing → ℕ → ℕ → Type 0
+abbrev pub IsEqualObject : PlanData → ℕ → ℕ → Type 0
 IsEqualObject p place m = (m < place) × AreEqualObjects p m place

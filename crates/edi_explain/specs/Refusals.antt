@@ -1,10 +1,10 @@
 -- What a refusal speaks of: a record, and an earlier one.
 use Rattle.std.specs.Prelude.{◌≡◌, ◌≢◌, ◌-◌, ℕ, suc, List, Option, Some, None}
-use Rattle.edi_line.specs.Entry.{Entry}
+use Rattle.edi_line.specs.ZoneData.{ZoneData}
 use Rattle.edi_line.specs.LineRules.{IsZonesOf}
 use Rattle.edi_line.specs.Zones.{groups_of}
 use Rattle.edi_record.specs.declared.sheet.Sheet.{Sheet}
-use Rattle.edi_plan.specs.Plans.{Drawing}
+use Rattle.edi_plan.specs.Plans.{PlanData}
 use Rattle.edi_schema.specs.Classes.{Classes}
 use Rattle.edi_compare.specs.PlanOfFile.{IsPlanOfFile, IsSheetOf}
 use Rattle.edi_explain.specs.Partners.{HasEnd, IsEqualNode, IsEqualObject, IsLeastIfAny, SharesName, SharesPoints, SharesSide}
@@ -20,23 +20,23 @@ pub record IsEarlierIfAny (s : Classes) (b : List ℕ) (rule place : ℕ) (found
   pub names : rule ≡ 301 → (sheet : Sheet) × IsSheetOf b sheet × IsLeastIfAny (SharesName sheet.list place) found
   pub subsets : rule ≡ 304 → (sheet : Sheet) × IsSheetOf b sheet × IsLeastIfAny (HasEnd sheet.list place) found
   pub sides : rule ≡ 307 → (sheet : Sheet) × IsSheetOf b sheet × IsLeastIfAny (SharesSide s sheet.list place) found
-  pub nodes : rule ≡ 403 → (p : Drawing) × IsPlanOfFile s b p × IsLeastIfAny (IsEqualNode p place) found
-  pub arcs : rule ≡ 405 → (p : Drawing) × IsPlanOfFile s b p × IsLeastIfAny (SharesPoints p place) found
-  pub objects : rule ≡ 501 → (p : Drawing) × IsPlanOfFile s b p × IsLeastIfAny (IsEqualObject p place) found
+  pub nodes : rule ≡ 403 → (p : PlanData) × IsPlanOfFile s b p × IsLeastIfAny (IsEqualNode p place) found
+  pub arcs : rule ≡ 405 → (p : PlanData) × IsPlanOfFile s b p × IsLeastIfAny (SharesPoints p place) found
+  pub objects : rule ≡ 501 → (p : PlanData) × IsPlanOfFile s b p × IsLeastIfAny (IsEqualObject p place) found
   pub others : rule ≢ 301 → rule ≢ 304 → rule ≢ 307 → rule ≢ 403 → rule ≢ 405 → rule ≢ 501 → found ≡ None
 
 -- the same of a file of a schema: the least record with the name, for 602
-pub record IsEarlierRowIfAny (zones : List Entry) (rule place : ℕ) (found : Option ℕ) : Type 0 where
+pub record IsEarlierRowIfAny (zones : List ZoneData) (rule place : ℕ) (found : Option ℕ) : Type 0 where
   pub names : rule ≡ 602 → IsLeastIfAny (SharesRowName (groups_of zones) place) found
   pub others : rule ≢ 602 → found ≡ None
 
 -- where the record at a place stands, if there is a place and a record
-abbrev pub IsSiteAtIfAny : List Entry → Option ℕ → Option RecordSite → Type 0
+abbrev pub IsSiteAtIfAny : List ZoneData → Option ℕ → Option RecordSite → Type 0
 IsSiteAtIfAny zones (Some place) found = IsSiteIfAny zones (suc place) found
 IsSiteAtIfAny zones None found = found ≡ None
 
 -- where the record of this number stands, and the one at an earlier place
-pub record AreSites (zones : List Entry) (number : ℕ) (earlier : Option ℕ) (sites : Refused) : Type 0 where
+pub record AreSites (zones : List ZoneData) (number : ℕ) (earlier : Option ℕ) (sites : Refused) : Type 0 where
   pub here : IsSiteIfAny zones number sites.here
   pub earlier_site : IsSiteAtIfAny zones earlier sites.earlier
 
@@ -44,11 +44,11 @@ pub record AreSites (zones : List Entry) (number : ℕ) (earlier : Option ℕ) (
 -- 1
 abbrev pub IsRefusedAt : Classes → List ℕ → ℕ → ℕ → Refused → Type 0
 IsRefusedAt s b rule number sites =
-    (zones : List Entry) × (earlier : Option ℕ) × IsZonesOf b zones × IsEarlierIfAny s b rule (number - 1) earlier
+    (zones : List ZoneData) × (earlier : Option ℕ) × IsZonesOf b zones × IsEarlierIfAny s b rule (number - 1) earlier
     × AreSites zones number earlier sites
 
 -- the same in a file of a schema
 abbrev pub IsRowRefusedAt : List ℕ → ℕ → ℕ → Refused → Type 0
 IsRowRefusedAt b rule number sites =
-    (zones : List Entry) × (earlier : Option ℕ) × IsZonesOf b zones × IsEarlierRowIfAny zones rule (number - 1) earlier
+    (zones : List ZoneData) × (earlier : Option ℕ) × IsZonesOf b zones × IsEarlierRowIfAny zones rule (number - 1) earlier
     × AreSites zones number earlier sites

@@ -1,6 +1,6 @@
 -- The line on the zone with which a record breaks a rule.
 use Rattle.std.specs.Prelude.{◌≡◌, ◌⊎◌, ◌++◌, ◌-◌, ◌==◌, ℕ, true, List, [], Option, Some, None, codes, decimal, if◌then◌else◌}
-use Rattle.edi_line.specs.Entry.{Entry}
+use Rattle.edi_line.specs.ZoneData.{ZoneData}
 use Rattle.edi_line.specs.LineRules.{IsZonesOf}
 use Rattle.edi_record.specs.RecordRules.{is_identifier}
 use Rattle.edi_record.specs.Texts.{IsCount, IsPointer, IsPosition, PointerText}
@@ -60,29 +60,29 @@ count_text (Some n) = codes "; there are " ++ decimal n
 count_text None = []
 
 -- what is said of the zone with which a record breaks a rule, which should count so many
-abbrev pub IsSaidOfZone : ℕ → Entry → Option ℕ → List ℕ → Type 0
+abbrev pub IsSaidOfZone : ℕ → ZoneData → Option ℕ → List ℕ → Type 0
 IsSaidOfZone rule z count said = (IsRightText rule count z.value × (said ≡ second_sentence rule))
     ⊎ (¬ (IsRightText rule count z.value) × (said ≡ zone_sentence rule ++ count_text count))
 
 -- FILE:LINE: CODE VALUE: what is said of it [RULE]
-abbrev pub zone_line : List ℕ → Entry → List ℕ → ℕ → List ℕ
+abbrev pub zone_line : List ℕ → ZoneData → List ℕ → ℕ → List ℕ
 zone_line name z said rule =
     position_text name z.line ++ z.code ++ codes " " ++ shown_bytes z.value ++ codes ": " ++ said ++ rule_mark rule
 
 -- the line on a zone of which, with the number of those that it should count, this holds; or no line where it holds
 -- of none
-abbrev pub IsZoneLine : (Entry → Option ℕ → Type 0) → List ℕ → ℕ → List ℕ → Type 0
-IsZoneLine P name rule lines = ((z : Entry) × (count : Option ℕ) × (said : List ℕ) × P z count
+abbrev pub IsZoneLine : (ZoneData → Option ℕ → Type 0) → List ℕ → ℕ → List ℕ → Type 0
+IsZoneLine P name rule lines = ((z : ZoneData) × (count : Option ℕ) × (said : List ℕ) × P z count
     × IsSaidOfZone rule z count said × (lines ≡ zone_line name z said rule))
-    ⊎ (((z : Entry) (count : Option ℕ) → ¬ (P z count)) × (lines ≡ []))
+    ⊎ (((z : ZoneData) (count : Option ℕ) → ¬ (P z count)) × (lines ≡ []))
 
 -- the line on the zone with which the record with a number breaks a rule, in a file of a schema with this name
 abbrev pub ExplainsZone : List ℕ → List ℕ → ℕ → ℕ → List ℕ → Type 0
-ExplainsZone b name rule number lines = (zones : List Entry) × IsZonesOf b zones
+ExplainsZone b name rule number lines = (zones : List ZoneData) × IsZonesOf b zones
     × IsZoneLine (IsBreakingZone zones rule number) name rule lines
 
 -- the same in a sheet
 abbrev pub ExplainsZoneOfSheet : Classes → List ℕ → List ℕ → ℕ → ℕ → List ℕ → Type 0
-ExplainsZoneOfSheet s b name rule number lines = (zones : List Entry) × (earlier : Option ℕ) × IsZonesOf b zones
+ExplainsZoneOfSheet s b name rule number lines = (zones : List ZoneData) × (earlier : Option ℕ) × IsZonesOf b zones
     × IsEarlierIfAny s b rule (number - 1) earlier
     × IsZoneLine (IsZoneOfSheet s zones earlier rule number) name rule lines

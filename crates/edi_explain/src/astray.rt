@@ -1,7 +1,7 @@
 //! The zone with which a record breaks rule 303 or 304: a pointer that names what it may not.
 
 ghost use Rattle.std.specs.Prelude.{◌≡◌, ◌≢◌, ◌↔◌, ◌<◌, ℕ, List, None, true, IfOk, IsTrue, MatchOption, Option, Some, codes, length, option_map};
-ghost use Rattle.edi_line.specs.Entry.{Entry, entries, entry, has_code};
+ghost use Rattle.edi_line.specs.ZoneData.{ZoneData, entries, entry, has_code};
 ghost use Rattle.edi_schema.specs.Classes.{place_of};
 ghost use Rattle.edi_explain.specs.AstrayZones.{AreApart, IsAstray, IsAstrayAt, IsFirstAstray, IsZoneOfRecord, NamesNoAttribute};
 
@@ -109,7 +109,7 @@ fn first_astray<'a, 'b>(
     group: &'b [Zone<'a>],
 ) -> Result<Option<&'b Zone<'a>>, AllocError>
     ensures { IfOk result (λ found. MatchOption found
-        ((z : Entry) → ¬ (IsFirstAstray schema.now (option_map (λ e. e.now) end.entry) rule (entries group.now) z))
+        ((z : ZoneData) → ¬ (IsFirstAstray schema.now (option_map (λ e. e.now) end.entry) rule (entries group.now) z))
         (λ z. IsFirstAstray schema.now (option_map (λ e. e.now) end.entry) rule (entries group.now) (entry z.now))) }
 {
     for place in 0..group.len() {
@@ -129,7 +129,7 @@ pub(crate) fn zone_of_record<'a, 'b>(
     end: Option<&[u8]>,
     rule: u16,
 ) -> Result<Option<(&'b Zone<'a>, Option<usize>)>, AllocError>
-    ensures { IfOk result (λ found. MatchOption found ((z : Entry) (count : Option ℕ)
+    ensures { IfOk result (λ found. MatchOption found ((z : ZoneData) (count : Option ℕ)
         → ¬ (IsZoneOfRecord schema.now (entries group.now) (option_map (λ e. e.now) end.entry) rule z count))
         (λ f. IsZoneOfRecord schema.now (entries group.now) (option_map (λ e. e.now) end.entry) rule
         (entry f.0.now) f.1)) }

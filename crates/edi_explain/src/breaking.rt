@@ -2,7 +2,7 @@
 
 ghost use Rattle.std.specs.Prelude.{◌≡◌, ◌↔◌, ◌<◌, ℕ, false, true, IsTrue, List, MatchOption, Option, codes, count_by, length, take};
 ghost use Rattle.std.specs.List.{list_any};
-ghost use Rattle.edi_line.specs.Entry.{Entry, entries, entry, has_code};
+ghost use Rattle.edi_line.specs.ZoneData.{ZoneData, entries, entry, has_code};
 ghost use Rattle.edi_record.specs.RecordRules.{IsNoPointer, is_identifier as is_identifier_text};
 ghost use Rattle.edi_record.specs.Texts.{IsPosition};
 ghost use Rattle.edi_record.specs.declared.record.Point.{Point as Points};
@@ -164,7 +164,7 @@ fn points_nowhere(code: [u8; 3], zone: &Zone<'_>) -> bool
 
 /// Whether a zone counts other zones and isn't their count, or is a second one with its code.
 fn miscounts(group: &[Zone<'_>], front: &[Zone<'_>], zone: &Zone<'_>) -> bool
-    ensures { (behind : List Entry) → IsTrue result
+    ensures { (behind : List ZoneData) → IsTrue result
         ↔ Passes (entries group.now) (entries front.now) (entry zone.now) behind BadCount }
 {
     let Some(counted) = counted_by(group, zone.code) else {
@@ -256,7 +256,7 @@ fn passes_at(group: &[Zone<'_>], is_open: bool, test: ZoneTest, place: usize) ->
 
 /// The first zone of a record that passes a test.
 fn first_passing<'a, 'b>(group: &'b [Zone<'a>], test: ZoneTest) -> Option<&'b Zone<'a>>
-    ensures { MatchOption result ((z : Entry) → ¬ (IsFirstPassing test (entries group.now) z))
+    ensures { MatchOption result ((z : ZoneData) → ¬ (IsFirstPassing test (entries group.now) z))
         (λ z. IsFirstPassing test (entries group.now) (entry z.now)) }
 {
     let mut is_open = false;
@@ -283,7 +283,7 @@ pub(crate) fn breaking_zone<'a, 'b>(
     group: &'b [Zone<'a>],
     rule: u16,
 ) -> Option<(&'b Zone<'a>, Option<usize>)>
-    ensures { MatchOption result ((z : Entry) (count : Option ℕ)
+    ensures { MatchOption result ((z : ZoneData) (count : Option ℕ)
         → ¬ (IsBreakingZoneOf (entries group.now) rule z count))
         (λ found. IsBreakingZoneOf (entries group.now) rule (entry found.0.now) found.1) }
 {

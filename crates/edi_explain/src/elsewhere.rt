@@ -1,7 +1,7 @@
 //! Records of the other VEC files of a lot, at which links of a sheet point.
 
 ghost use Rattle.std.specs.Prelude.{◌≡◌, ◌↔◌, ℕ, List, IfOk, IsTrue, MatchOption, Some, codes};
-ghost use Rattle.edi_line.specs.Entry.{entries, first};
+ghost use Rattle.edi_line.specs.ZoneData.{entries, first};
 ghost use Rattle.edi_record.specs.Records.{values};
 ghost use Rattle.edi_record.specs.Texts.{shown};
 ghost use Rattle.edi_explain.specs.AstrayZones.{IsNamedBy};
@@ -27,7 +27,7 @@ struct LinkEnds {
 
 impl LinkEnds {
     ghost use Rattle.std.specs.Prelude.{◌≡◌, ◌++◌, ◌∷◌, [], ℕ, List, OnOk, codes};
-    ghost use Rattle.edi_line.specs.Entry.{Entry, entries};
+    ghost use Rattle.edi_line.specs.ZoneData.{ZoneData, entries};
     ghost use Rattle.edi_record.specs.Records.{values};
     ghost use Rattle.edi_explain.specs.Elsewhere.{ends_of_record};
     ghost use Rattle.edi_explain.specs.inner.Elsewhere.{AreEnds};
@@ -180,14 +180,14 @@ impl GroupOut for SoughtName<'_> {
 
 impl SoughtName<'_> {
     ghost use Rattle.std.specs.Prelude.{◌↔◌, ◌∷◌, List, IsTrue};
-    ghost use Rattle.edi_line.specs.Entry.{Entry};
+    ghost use Rattle.edi_line.specs.ZoneData.{ZoneData};
     ghost use Rattle.edi_record.specs.Texts.{shown};
     ghost use Rattle.edi_explain.specs.Elsewhere.{HasNamedAmong};
     ghost use Rattle.edi_explain.specs.inner.Elsewhere.{IsSoughtName};
 
     /// Whether the record is there, and the links begin with an end of its lot and subset.
     fn is_found(&self) -> bool
-        ensures { (sign : List Entry) (come : List (List Entry)) → IsSoughtName self.now (sign ∷ come)
+        ensures { (sign : List ZoneData) (come : List (List ZoneData)) → IsSoughtName self.now (sign ∷ come)
             → IsTrue result ↔ HasNamedAmong come (shown self.now.pointer) }
     {
         let Some(home) = &self.ends.home else {

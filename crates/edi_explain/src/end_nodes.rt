@@ -1,9 +1,9 @@
 //! The node that a rule of topology speaks of beside an arc: the initial one for 401, the final one for 402.
 
 ghost use Rattle.std.specs.Prelude.{◌≡◌, ℕ, List, IfOk};
-ghost use Rattle.edi_line.specs.Entry.{entries};
+ghost use Rattle.edi_line.specs.ZoneData.{entries};
 ghost use Rattle.edi_line.specs.LineRules.{IsZonesOf};
-ghost use Rattle.edi_plan.specs.Plans.{Drawing};
+ghost use Rattle.edi_plan.specs.Plans.{PlanData};
 ghost use Rattle.edi_plan.specs.Sides.{IsSideIfAny};
 ghost use Rattle.edi_schema.specs.Classes.{Classes};
 ghost use Rattle.edi_compare.specs.PlanOfFile.{IsPlanOfFile};

@@ -3,7 +3,7 @@
 ghost use Rattle.std.specs.Prelude.{◌≡◌, ◌⊎◌, ◌-◌, ℕ, List, OnOk, IfOk, IfErr};
 ghost use Rattle.edi_line.specs.LineRules.{BreaksLineRule};
 ghost use Rattle.edi_line.specs.Refusal.{IsUnbroken};
-ghost use Rattle.edi_plan.specs.Plans.{Drawing};
+ghost use Rattle.edi_plan.specs.Plans.{PlanData};
 ghost use Rattle.edi_record.specs.RecordRefusal.{IsRecordRefusal};
 ghost use Rattle.edi_record.specs.declared.sheet.Sheet.{Sheet as Sheets};
 ghost use Rattle.edi_topo.specs.TopologyRules.{BreaksTopologyRule};

@@ -1,7 +1,7 @@
 //! What is said of a refusal, of a plan and of a rule.
 
 ghost use Rattle.std.specs.Prelude.{◌≡◌, ◌↔◌, ◌++◌, ◌-◌, ◌∷◌, [], ℕ, List, Option, IsTrue, IfOk, IfSome, MatchOption, OnOk, codes, decimal, option_copied};
-ghost use Rattle.edi_line.specs.Entry.{Entry, entries};
+ghost use Rattle.edi_line.specs.ZoneData.{ZoneData, entries};
 ghost use Rattle.edi_line.specs.LineRules.{BreaksLineRule, IsZonesOf};
 ghost use Rattle.edi_line.specs.Refusal.{IsLeastBroken, IsUnbroken};
 ghost use Rattle.edi_schema.specs.SchemaRefusal.{IsSchemaRefusal};
@@ -83,7 +83,7 @@ fn explain_place(
     name: &[u8],
     rule: u16,
 ) -> Result<Vec<u8>, AllocError>
-    ensures { IfOk result (λ lines. (zones : List Entry) (number : ℕ) (earlier : Option ℕ)
+    ensures { IfOk result (λ lines. (zones : List ZoneData) (number : ℕ) (earlier : Option ℕ)
         → AreFound zones number earlier records.now → (text : Option Texts) × (sites : Sites)
         × IsRuleText rule text × AreSites zones number earlier sites
         × (lines.items ≡ lines_of_sites name.now sites (sentence_of text) rule)) }

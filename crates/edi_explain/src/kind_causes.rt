@@ -1,7 +1,7 @@
 //! What breaks rule 604: which of its cases, and of which classes.
 
 ghost use Rattle.std.specs.Prelude.{◌≡◌, ◌↔◌, [], IsTrue, MatchOption};
-ghost use Rattle.edi_line.specs.Entry.{entries};
+ghost use Rattle.edi_line.specs.ZoneData.{entries};
 ghost use Rattle.edi_line.specs.Zones.{groups_of};
 ghost use Rattle.edi_schema.specs.SchemaRules.{BreaksKinds};
 ghost use Rattle.edi_schema.specs.declared.role.Role.{Role as Roles};

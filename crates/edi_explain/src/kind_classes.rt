@@ -1,7 +1,7 @@
 //! The classes of the four kinds of links in the file of a schema.
 
 ghost use Rattle.std.specs.Prelude.{◌≡◌, ◌↔◌, IsTrue, option_map};
-ghost use Rattle.edi_line.specs.Entry.{entries};
+ghost use Rattle.edi_line.specs.ZoneData.{entries};
 ghost use Rattle.edi_line.specs.Zones.{groups_of};
 ghost use Rattle.edi_schema.specs.Roles.{role_by, role_coded};
 ghost use Rattle.edi_explain.specs.KindClasses.{IsClassBehind, codes_of};

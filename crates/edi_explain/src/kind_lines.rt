@@ -1,7 +1,7 @@
 //! What is said of the classes of the four kinds of links.
 
 ghost use Rattle.std.specs.Prelude.{◌≡◌, ◌↔◌, ◌++◌, [], ℕ, List, Option, IfErr, IfOk, IsTrue, OnOk};
-ghost use Rattle.edi_line.specs.Entry.{Entry, entries};
+ghost use Rattle.edi_line.specs.ZoneData.{ZoneData, entries};
 ghost use Rattle.edi_line.specs.LineRules.{BreaksLineRule, IsZonesOf};
 ghost use Rattle.edi_line.specs.Refusal.{IsLineRefusal, IsUnbroken};
 ghost use Rattle.edi_line.specs.Zones.{groups_of};
@@ -67,7 +67,7 @@ pub(crate) fn explain_kinds(
     codes: &ByRole<&[u8]>,
 ) -> Result<Vec<u8>, AllocError>
     requires lines { IsUnbroken (BreaksLineRule scd.now.bytes.now) }
-    requires broken { (zones : List Entry) → IsZonesOf scd.now.bytes.now zones
+    requires broken { (zones : List ZoneData) → IsZonesOf scd.now.bytes.now zones
         → BreaksKinds (groups_of zones) [] (codes_of codes.now) }
     ensures { IfOk result (λ lines. ExplainsKinds (codes_of codes.now) scd.now.bytes.now scd.now.name.now lines.items) }
 {

@@ -1,7 +1,7 @@
 //! The lines of rules that are broken, each by itself, and where the records of a file stand.
 
 ghost use Rattle.std.specs.Prelude.{◌≡◌, ◌++◌, Option, List, IfOk, OnOk};
-ghost use Rattle.edi_line.specs.Entry.{Entry};
+ghost use Rattle.edi_line.specs.ZoneData.{ZoneData};
 ghost use Rattle.edi_line.specs.LineRules.{BreaksLineRule, IsZonesOf};
 ghost use Rattle.edi_line.specs.Refusal.{IsUnbroken};
 ghost use Rattle.edi_line.specs.Zones.{groups_of};
@@ -65,7 +65,7 @@ impl GroupOut for SiteList {
 /// memory at a time.
 pub fn sites_of_all(alloc: Global, bytes: &[u8]) -> Result<Vec<RecordSite>, AllocError>
     requires { IsUnbroken (BreaksLineRule bytes.now) }
-    ensures { IfOk result (λ sites. (zones : List Entry) × IsZonesOf bytes.now zones
+    ensures { IfOk result (λ sites. (zones : List ZoneData) × IsZonesOf bytes.now zones
         × AreAllSites (groups_of zones) sites.items) }
 {
     let mut list = SiteList {

@@ -2,7 +2,7 @@
 
 ghost use Rattle.std.specs.Prelude.{◌≡◌, ◌↔◌, ◌++◌, List, Contains, IfOk, IsTrue, MatchOption, OnOk, Some, codes, true};
 ghost use Rattle.edi_hash.specs.Keys.{Holds};
-ghost use Rattle.edi_line.specs.Entry.{Entry, entries, entry, has_code};
+ghost use Rattle.edi_line.specs.ZoneData.{ZoneData, entries, entry, has_code};
 ghost use Rattle.edi_line.specs.Zones.{groups_of};
 ghost use Rattle.edi_record.specs.Texts.{PointerText};
 ghost use Rattle.edi_explain.specs.AstrayZones.{IsFirstLostEnd, IsNamedBy, NamesNoElement};
@@ -80,7 +80,7 @@ impl GroupOut for GatheredNames {
 
 /// Hands the zones of each record on, in the order of the records.
 fn hand_on<O: GroupOut>(alloc: Global, zones: &[Zone<'_>], out: &mut O) -> Result<(), AllocError>
-    ensures { OnOk result ((groups : List (List Entry)) → O.Holds out.old groups
+    ensures { OnOk result ((groups : List (List ZoneData)) → O.Holds out.old groups
         → O.Holds out.new (groups ++ groups_of (entries zones.now))) }
 {
     let mut rest = zones;
@@ -138,7 +138,7 @@ fn names_no_element(
     names: &IndexSet<Name, NameHash>,
     text: &[u8],
 ) -> Result<bool, AllocError>
-    ensures { IfOk result (λ t. (groups : List (List Entry)) → AreNamesOf groups names.now.keys
+    ensures { IfOk result (λ t. (groups : List (List ZoneData)) → AreNamesOf groups names.now.keys
         → IsTrue t ↔ NamesNoElement groups text.now) }
 {
     let Some(pointer) = Pointer::read(text) else {
@@ -157,7 +157,7 @@ fn is_lost_end(
     names: &IndexSet<Name, NameHash>,
     zone: &Zone<'_>,
 ) -> Result<bool, AllocError>
-    ensures { IfOk result (λ t. (groups : List (List Entry)) → AreNamesOf groups names.now.keys
+    ensures { IfOk result (λ t. (groups : List (List ZoneData)) → AreNamesOf groups names.now.keys
         → IsTrue t ↔ ((has_code (codes "FTP") (entry zone.now) ≡ true)
         × NamesNoElement groups (entry zone.now).value)) }
 {
@@ -174,8 +174,8 @@ pub(crate) fn first_lost_end<'a, 'b>(
     names: &IndexSet<Name, NameHash>,
     group: &'b [Zone<'a>],
 ) -> Result<Option<&'b Zone<'a>>, AllocError>
-    ensures { IfOk result (λ found. (groups : List (List Entry)) → AreNamesOf groups names.now.keys
-        → MatchOption found ((z : Entry) → ¬ (IsFirstLostEnd groups (entries group.now) z))
+    ensures { IfOk result (λ found. (groups : List (List ZoneData)) → AreNamesOf groups names.now.keys
+        → MatchOption found ((z : ZoneData) → ¬ (IsFirstLostEnd groups (entries group.now) z))
         (λ z. IsFirstLostEnd groups (entries group.now) (entry z.now))) }
 {
     for place in 0..group.len() {

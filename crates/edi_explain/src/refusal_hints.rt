@@ -10,7 +10,7 @@ use crate::explained::NamedFile;
 use crate::hints::{Part, hints_on};
 use crate::lengths::{counts_characters, push_length_hint};
 use edi_line::{LineFault, read_groups};
-use edi_record::KeepNothing;
+use edi_record::NoObserver;
 use std::alloc::{AllocError, Global};
 
 /// Whether a file breaks no rule of lines, or the first that it breaks.
@@ -18,7 +18,7 @@ fn lines_judged(alloc: Global, bytes: &[u8]) -> Result<(), LineFault>
     ensures sound { OnOk result (IsUnbroken (BreaksLineRule bytes.now)) }
     ensures least { IfErr result (IsLineRefusal (BreaksLineRule bytes.now)) }
 {
-    let mut nothing = KeepNothing;
+    let mut nothing = NoObserver;
     read_groups(alloc, bytes, &mut nothing)?;
     Ok(())
 }

@@ -1,7 +1,7 @@
 //! The record that a refusal names, and the earlier one that its rule speaks of.
 
 ghost use Rattle.std.specs.Prelude.{◌≡◌, ◌≢◌, ◌⊎◌, ◌-◌, ◌<◌, ℕ, List, Option, IfOk};
-ghost use Rattle.edi_line.specs.Entry.{Entry, entries};
+ghost use Rattle.edi_line.specs.ZoneData.{ZoneData, entries};
 ghost use Rattle.edi_line.specs.LineRules.{BreaksLineRule, IsZonesOf};
 ghost use Rattle.edi_line.specs.Refusal.{IsUnbroken};
 ghost use Rattle.edi_record.specs.declared.sheet.Sheet.{Sheet as Sheets};
@@ -106,7 +106,7 @@ pub(crate) fn sites_of_records(
     alloc: Global,
     records: &FoundRecords<'_, '_>,
 ) -> Result<Refused, AllocError>
-    ensures { IfOk result (λ sites. (zones : List Entry) (number : ℕ) (earlier : Option ℕ)
+    ensures { IfOk result (λ sites. (zones : List ZoneData) (number : ℕ) (earlier : Option ℕ)
         → AreFound zones number earlier records.now → AreSites zones number earlier sites) }
 {
     Ok(Refused {

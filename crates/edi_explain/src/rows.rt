@@ -1,7 +1,7 @@
 //! Records of a file, looked for among their zones.
 
 ghost use Rattle.std.specs.Prelude.{◌≡◌, ◌↔◌, IsTrue, MatchOption, Some};
-ghost use Rattle.edi_line.specs.Entry.{entries};
+ghost use Rattle.edi_line.specs.ZoneData.{entries};
 ghost use Rattle.edi_line.specs.Zones.{groups_of};
 ghost use Rattle.edi_record.specs.Records.{values, first};
 ghost use Rattle.edi_record.specs.declared.name.Name.{Name};

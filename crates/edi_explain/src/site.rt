@@ -1,7 +1,7 @@
 //! Where the records of a file stand.
 
 ghost use Rattle.std.specs.Prelude.{List, ℕ, ◌≡◌, IfOk, option_map, slice_get};
-ghost use Rattle.edi_line.specs.Entry.{Entry, entries};
+ghost use Rattle.edi_line.specs.ZoneData.{ZoneData, entries};
 ghost use Rattle.edi_line.specs.LineRules.{BreaksLineRule, IsZonesOf};
 ghost use Rattle.edi_line.specs.Refusal.{IsUnbroken};
 ghost use Rattle.edi_line.specs.Zones.{groups_of};
@@ -95,7 +95,7 @@ pub(crate) fn site_if_found(
     alloc: Global,
     found: Option<&[Zone<'_>]>,
 ) -> Result<Option<RecordSite>, AllocError>
-    ensures { IfOk result (λ site. (zones : List Entry) (number : ℕ)
+    ensures { IfOk result (λ site. (zones : List ZoneData) (number : ℕ)
         → option_map (λ g. entries g.now) found.entry ≡ group_numbered (groups_of zones) number
         → IsSiteIfAny zones number site) }
 {

@@ -2,7 +2,7 @@
 
 ghost use Rattle.std.specs.Prelude.{◌≡◌, ◌++◌, IfOk, IfErr, OnOk, codes, count_by, nat_eq};
 ghost use Rattle.std.specs.List.{starts_with};
-ghost use Rattle.edi_line.specs.Entry.{entries};
+ghost use Rattle.edi_line.specs.ZoneData.{entries};
 ghost use Rattle.edi_line.specs.LineRules.{BreaksLineRule};
 ghost use Rattle.edi_line.specs.Refusal.{IsLineRefusal, IsUnbroken};
 ghost use Rattle.edi_explain.specs.Skipped.{DescribesSkipped, HasQuality, HasRemarks, is_quality, left_out_line, quality_count};

@@ -2,7 +2,7 @@
 
 ghost use Rattle.std.specs.Prelude.{◌≡◌, ◌≢◌, ◌↔◌, [], true, Bool, IsTrue, List, bytes_eq, codes};
 ghost use Rattle.std.specs.List.{list_any};
-ghost use Rattle.edi_line.specs.Entry.{Entry, entries, entry, has_code};
+ghost use Rattle.edi_line.specs.ZoneData.{ZoneData, entries, entry, has_code};
 ghost use Rattle.edi_record.specs.Bytes.{letter_p};
 ghost use Rattle.edi_record.specs.Records.{IsExtraAt, IsOpen, is_known as is_known_code, known_anywhere, known_in};
 ghost use Rattle.edi_record.specs.Shapes.{kind_code};
@@ -60,7 +60,7 @@ pub(crate) fn is_open_behind(is_open: bool, zone: &Zone<'_>) -> bool
 fn is_set(front: Front<'_, '_>, zone: &Zone<'_>) -> bool
     requires { LeavesOpen front.is_open (entries front.zones.now) }
     ensures { (result ≡ true) ↔ ((has_code (codes "TEX") (entry zone.now) ≡ true)
-        × ((since : List Entry) × IsOpen (entries front.entry.zones.now) since)) }
+        × ((since : List ZoneData) × IsOpen (entries front.entry.zones.now) since)) }
 {
     zone.code == *b"TEX" && front.is_open
 }

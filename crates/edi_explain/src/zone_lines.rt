@@ -1,7 +1,7 @@
 //! The line on the zone with which a record breaks a rule.
 
 ghost use Rattle.std.specs.Prelude.{◌≡◌, ◌≢◌, ◌++◌, ℕ, List, Option, suc, IfOk, OnOk, codes, option_and_then, option_map, unwrap_or};
-ghost use Rattle.edi_line.specs.Entry.{Entry, entries, entry, first};
+ghost use Rattle.edi_line.specs.ZoneData.{ZoneData, entries, entry, first};
 ghost use Rattle.edi_line.specs.Zones.{groups_of};
 ghost use Rattle.edi_record.specs.Records.{values};
 ghost use Rattle.edi_schema.specs.Classes.{Classes};
@@ -171,7 +171,7 @@ fn end_of<'b>(found: Option<&'b [Zone<'_>]>) -> Option<&'b [u8]>
 
 /// The first end of all links: that of the earlier record that rule 304 speaks of, or else of the refused one.
 fn first_end<'b>(records: &FoundRecords<'_, 'b>, earlier: Option<u64>) -> Option<&'b [u8]>
-    ensures { (zones : List Entry) (place : ℕ) → AreFound zones (suc place) earlier records.now
+    ensures { (zones : List ZoneData) (place : ℕ) → AreFound zones (suc place) earlier records.now
         → option_map (λ e. e.now) result ≡ first_end_at zones (unwrap_or earlier place) }
 {
     match earlier {
@@ -188,7 +188,7 @@ pub(crate) fn explain_zone(
     name: &[u8],
     rule: u16,
 ) -> Result<Vec<u8>, AllocError>
-    ensures { IfOk result (λ lines. (zones : List Entry) (number : ℕ) (earlier : Option ℕ)
+    ensures { IfOk result (λ lines. (zones : List ZoneData) (number : ℕ) (earlier : Option ℕ)
         → AreFound zones number earlier records.now
         → IsZoneLine (IsBreakingZone zones rule number) name.now rule lines.items) }
 {
@@ -265,7 +265,7 @@ fn explain_zone_of_record(
     rule: u16,
 ) -> Result<Vec<u8>, AllocError>
     requires { rule ≢ 305 }
-    ensures { IfOk result (λ lines. (zones : List Entry) (number : ℕ) → AreFound zones number earlier records.now
+    ensures { IfOk result (λ lines. (zones : List ZoneData) (number : ℕ) → AreFound zones number earlier records.now
         → IsZoneLine (IsZoneOfSheet schema.now zones earlier rule number) name.now rule lines.items) }
 {
     let end = first_end(records, earlier);

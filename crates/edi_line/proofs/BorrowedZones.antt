@@ -11,7 +11,7 @@ use Rattle.edi_line.specs.inner.Zones.{readings_of}
 use Rattle.edi_line.proofs.Passes.{Next as NextLine}
 use Rattle.edi_line.proofs.Readings.{readings_are}
 use Rattle.edi_line.specs.Zones.{IsContinued, IsBorrowedUnlessContinued}
-use Rattle.edi_line.specs.Entry.{entry, entries}
+use Rattle.edi_line.specs.ZoneData.{entry, entries}
 use Rattle.edi_line.specs.inner.Held.{Stands}
 use Rattle.edi_line.specs.declared.fault.LineFault.{LineFault}
 use Rattle.edi_line.specs.inner.Borrowed.{IsOpenAt, BorrowsLines, IsClosed, IsLengthened, Leaves, LeavesAfter, begins_at}

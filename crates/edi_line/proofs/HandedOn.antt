@@ -4,7 +4,7 @@ use Rattle.std.specs.List.{list_any}
 use Rattle.std.proofs.lemmas.Bool.{and_parts, or_parts, or_from, ne_eqb}
 use Rattle.std.proofs.lemmas.List.{append-nil, append_assoc, length_push}
 use Rattle.std.proofs.lemmas.List.Folds.{list_any-append}
-use Rattle.edi_line.specs.Entry.{Entry}
+use Rattle.edi_line.specs.ZoneData.{ZoneData}
 use Rattle.edi_line.specs.Feeding.{seen_in, Zoned}
 use Rattle.edi_line.specs.Groups.{IsHandedOut}
 use Rattle.edi_line.specs.LineRules.{BreaksAt, BreaksIn, BreaksLineRule}
@@ -26,23 +26,23 @@ use Rattle.edi_line.proofs.Stretches.{end_behind, groups_join, inner_whole}
 
 -- ---- stretches of zones
 
-groups_on : (given stretch : List Entry) → IsNext given stretch → groups_of given ++ groups_of stretch ≡ groups_of (given ++ stretch)
+groups_on : (given stretch : List ZoneData) → IsNext given stretch → groups_of given ++ groups_of stretch ≡ groups_of (given ++ stretch)
 groups_on given stretch (inl none) = rw none refl
 groups_on given stretch (inr ends) = sym (groups_join given stretch ends)
 
-set_kept : (z : Entry) (zs : List Entry) (charset : Option (List ℕ)) → ends_group z ≡ true → charset_behind charset (z ∷ zs) ≡ charset
+set_kept : (z : ZoneData) (zs : List ZoneData) (charset : Option (List ℕ)) → ends_group z ≡ true → charset_behind charset (z ∷ zs) ≡ charset
 set_kept z zs charset b = rw b refl
 
-set_found : (z : Entry) (zs : List Entry) (charset : Option (List ℕ)) → ends_group z ≡ false → charset_behind charset (z ∷ zs) ≡ charset_in (z ∷ zs)
+set_found : (z : ZoneData) (zs : List ZoneData) (charset : Option (List ℕ)) → ends_group z ≡ false → charset_behind charset (z ∷ zs) ≡ charset_in (z ∷ zs)
 set_found z zs charset b = rw b refl
 
-ended_at_once : (z : Entry) (zs : List Entry) → ends_group z ≡ true → before_end (z ∷ zs) ≡ []
+ended_at_once : (z : ZoneData) (zs : List ZoneData) → ends_group z ≡ true → before_end (z ∷ zs) ≡ []
 ended_at_once z zs b = rw b refl
 
-not_ended : (z : Entry) (zs : List Entry) → ends_group z ≡ false → list_any ends_group zs ≡ false → before_end (z ∷ zs) ≡ z ∷ zs
+not_ended : (z : ZoneData) (zs : List ZoneData) → ends_group z ≡ false → list_any ends_group zs ≡ false → before_end (z ∷ zs) ≡ z ∷ zs
 not_ended z zs b inner = rw b (ap (λ l. z ∷ l) (inner_whole zs inner))
 
-charset_on : (given stretch : List Entry) (charset : Option (List ℕ)) → IsNext given stretch → IsInner stretch → charset ≡ charset_in (before_end given) → charset_behind charset stretch ≡ charset_in (before_end (given ++ stretch))
+charset_on : (given stretch : List ZoneData) (charset : Option (List ℕ)) → IsNext given stretch → IsInner stretch → charset ≡ charset_in (before_end given) → charset_behind charset stretch ≡ charset_in (before_end (given ++ stretch))
 charset_on given [] charset next inner e = e ∙ ap (λ l. charset_in (before_end l)) (sym (append-nil given))
 charset_on given (z ∷ zs) charset next inner e = go (ends_group z) refl next
   where
@@ -59,21 +59,21 @@ charset_on given (z ∷ zs) charset next inner e = go (ends_group z) refl next
 
 -- ---- what the reader holds
 
-step_behind : (given : List Entry) (part : Part) (z : Zoned) → step part (behind given z) ≡ behind given (step part z)
+step_behind : (given : List ZoneData) (part : Part) (z : Zoned) → step part (behind given z) ≡ behind given (step part z)
 step_behind given Blank z = refl
 step_behind given (Continues value) z = refl
 step_behind given IsRemark z = ap (λ d. record { done = d; open_zone = None }) (append_assoc given z.done (option_to_list z.open_zone))
 step_behind given (Begins zone) z = ap (λ d. record { done = d; open_zone = Some zone }) (append_assoc given z.done (option_to_list z.open_zone))
 
-front_ends : (xs ys : List Entry) → not (length xs == 0) ≡ true → starts_ended (xs ++ ys) ≡ starts_ended xs
+front_ends : (xs ys : List ZoneData) → not (length xs == 0) ≡ true → starts_ended (xs ++ ys) ≡ starts_ended xs
 front_ends [] ys e = absurd (cc)
 front_ends (x ∷ xs) ys e = refl
 
-front_starts : (xs ys : List Entry) → starts_ended xs ≡ true → starts_ended (xs ++ ys) ≡ true
+front_starts : (xs ys : List ZoneData) → starts_ended xs ≡ true → starts_ended (xs ++ ys) ≡ true
 front_starts [] ys e = absurd (cc)
 front_starts (x ∷ xs) ys e = e
 
-lengthened : (done : List Entry) (open_zone : Option Entry) (value : List ℕ) → starts_ended (closed (record { done = done; open_zone = open_zone })) ≡ true
+lengthened : (done : List ZoneData) (open_zone : Option ZoneData) (value : List ℕ) → starts_ended (closed (record { done = done; open_zone = open_zone })) ≡ true
     → starts_ended (closed (step (Continues value) (record { done = done; open_zone = open_zone }))) ≡ true
 lengthened [] None value e = e
 lengthened [] (Some z) value e = e
@@ -85,7 +85,7 @@ starts_on (Continues value) z e = lengthened z.done z.open_zone value e
 starts_on IsRemark z e = front_starts (closed z) [] e
 starts_on (Begins zone) z e = front_starts (closed z) (zone ∷ []) e
 
-front_inner : (xs ys : List Entry) → IsInner (xs ++ ys) → IsInner xs
+front_inner : (xs ys : List ZoneData) → IsInner (xs ++ ys) → IsInner xs
 front_inner [] ys e = refl
 front_inner (x ∷ xs) ys e = (or_parts (list_any ends_group xs) (list_any ends_group ys) (sym (list_any-append ends_group xs ys) ∙ e)).0
 
@@ -102,10 +102,10 @@ inner_still z inner none = go z.done z.open_zone inner none
     last true some e h = let k : true ≡ false = sym e ∙ h in absurd (cc)
     last false some e h = refl
 
-    some_done : (d : Entry) (ds : List Entry) → not (length (d ∷ ds) == 0) ≡ true
+    some_done : (d : ZoneData) (ds : List ZoneData) → not (length (d ∷ ds) == 0) ≡ true
     some_done d ds = ap not (ne_eqb (length (d ∷ ds)) 0 (λ e. omega (arith, e)))
 
-    go : (done : List Entry) (open_zone : Option Entry) → IsInner done → ends_in open_zone && not (length done == 0) ≡ false → IsInner (done ++ option_to_list open_zone)
+    go : (done : List ZoneData) (open_zone : Option ZoneData) → IsInner done → ends_in open_zone && not (length done == 0) ≡ false → IsInner (done ++ option_to_list open_zone)
     go done None inner none = subst IsInner (sym (append-nil done)) inner
     go [] (Some e) inner none = refl
     go (d ∷ ds) (Some e) inner none = list_any-append ends_group ds (e ∷ []) ∙ or_from (list_any ends_group ds) (ends_group e || false) inner (last (ends_group e) (not (length (d ∷ ds) == 0)) (some_done d ds) none)
@@ -126,7 +126,7 @@ at_start lines r s = record {
 }
 
 -- the same with another reader that holds the same
-pub at_same : (lines left : List Reading) (given : List Entry) (old new : Reader) (charset : Option (List ℕ)) → new.line ≡ old.line → new.order ≡ old.order → zoned new ≡ zoned old
+pub at_same : (lines left : List Reading) (given : List ZoneData) (old new : Reader) (charset : Option (List ℕ)) → new.line ≡ old.line → new.order ≡ old.order → zoned new ≡ zoned old
     → IsAtLines lines left given old charset → IsAtLines lines left given new charset
 at_same lines left given old new charset line order zones at = record {
   done = at.done;
@@ -141,7 +141,7 @@ at_same lines left given old new charset line order zones at = record {
 }
 
 -- one line more, whether or not it ends a record
-record HasTaken (lines left : List Reading) (given : List Entry) (r : Reader) (charset : Option (List ℕ)) : Type 0 where
+record HasTaken (lines left : List Reading) (given : List ZoneData) (r : Reader) (charset : Option (List ℕ)) : Type 0 where
   done : List Reading
   cut : lines ≡ done ++ left
   counted : r.line ≡ length done
@@ -152,7 +152,7 @@ record HasTaken (lines left : List Reading) (given : List Entry) (r : Reader) (c
   inner : IsInner (zoned r).done
   charset_is : charset ≡ charset_in (before_end given)
 
-one_taken : (lines left : List Reading) (line : Reading) (given : List Entry) (old new : Reader) (charset : Option (List ℕ))
+one_taken : (lines left : List Reading) (line : Reading) (given : List ZoneData) (old new : Reader) (charset : Option (List ℕ))
     → IsAtLines lines (line ∷ left) given old charset → Takes old line new → HasTaken lines left given new charset
 one_taken lines left line given old new charset at t =
     let part = part_of (old.line + 1) line in
@@ -169,12 +169,12 @@ one_taken lines left line given old new charset at t =
     }
 
 -- the zones that are done belong to one record
-pub done_inner : (lines left : List Reading) (line : Reading) (given : List Entry) (old new : Reader) (charset : Option (List ℕ))
+pub done_inner : (lines left : List Reading) (line : Reading) (given : List ZoneData) (old new : Reader) (charset : Option (List ℕ))
     → IsAtLines lines (line ∷ left) given old charset → Takes old line new → IsInner (zoned new).done
 done_inner lines left line given old new charset at t = (one_taken lines left line given old new charset at t).inner
 
 -- a line that ends no record
-pub line_held : (lines left : List Reading) (line : Reading) (given : List Entry) (old new : Reader) (charset : Option (List ℕ))
+pub line_held : (lines left : List Reading) (line : Reading) (given : List ZoneData) (old new : Reader) (charset : Option (List ℕ))
     → has_group (zoned new) ≡ false → Takes old line new → IsAtLines lines (line ∷ left) given old charset → IsAtLines lines left given new charset
 line_held lines left line given old new charset none t at =
     let h = one_taken lines left line given old new charset at t in
@@ -191,9 +191,9 @@ line_held lines left line given old new charset none t at =
     }
 
 -- a line that ends a record, whose zones are handed on and let go
-pub group_gone : (lines left : List Reading) (line : Reading) (given stretch : List Entry) (old mid new : Reader) (charset charset_new : Option (List ℕ)) (Before After : List (List Entry) → Type 0)
+pub group_gone : (lines left : List Reading) (line : Reading) (given stretch : List ZoneData) (old mid new : Reader) (charset charset_new : Option (List ℕ)) (Before After : List (List ZoneData) → Type 0)
     → has_group (zoned mid) ≡ true → stretch ≡ (zoned mid).done → charset_new ≡ charset_behind charset stretch
-    → ((groups : List (List Entry)) → Before groups → After (groups ++ groups_of stretch))
+    → ((groups : List (List ZoneData)) → Before groups → After (groups ++ groups_of stretch))
     → new.line ≡ mid.line → new.order ≡ mid.order → zoned new ≡ record { done = []; open_zone = (zoned mid).open_zone }
     → Takes old line mid → IsAtLines lines (line ∷ left) given old charset → WentOn lines left given new charset_new Before After
 group_gone lines left line given stretch old mid new charset charset_new Before After has is set on same_line same_order zones t at =
@@ -218,56 +218,56 @@ group_gone lines left line given stretch old mid new charset charset_new Before 
       handed = λ groups before. subst After (append_assoc groups (groups_of given) (groups_of stretch) ∙ ap (λ gs. groups ++ gs) (groups_on given stretch next)) (on (groups ++ groups_of given) before);
     }
   where
-    opened_ends : (o : Option Entry) → ends_in o ≡ true → starts_ended (option_to_list o) ≡ true
+    opened_ends : (o : Option ZoneData) → ends_in o ≡ true → starts_ended (option_to_list o) ≡ true
     opened_ends None e = absurd (cc)
     opened_ends (Some z) e = e
 
-    one_inner : (o : Option Entry) → IsInner (option_to_list o)
+    one_inner : (o : Option ZoneData) → IsInner (option_to_list o)
     one_inner None = refl
     one_inner (Some z) = refl
 
 -- ---- going on
 
-pub went_nowhere : (lines left : List Reading) (given : List Entry) (r : Reader) (charset : Option (List ℕ)) (Holds : List (List Entry) → Type 0) → IsAtLines lines left given r charset → WentOn lines left given r charset Holds Holds
+pub went_nowhere : (lines left : List Reading) (given : List ZoneData) (r : Reader) (charset : Option (List ℕ)) (Holds : List (List ZoneData) → Type 0) → IsAtLines lines left given r charset → WentOn lines left given r charset Holds Holds
 went_nowhere lines left given r charset Holds at = record { given_now = given; at = at; handed = λ groups before. before }
 
 -- a reader goes on, and then on again
-pub went_further : {lines mid left : List Reading} {given : List Entry} {old new : Reader} {charset charset_new : Option (List ℕ)} {Before Between After : List (List Entry) → Type 0}
-    → ((g : List Entry) → IsAtLines lines mid g old charset → WentOn lines left g new charset_new Between After) → WentOn lines mid given old charset Before Between → WentOn lines left given new charset_new Before After
+pub went_further : {lines mid left : List Reading} {given : List ZoneData} {old new : Reader} {charset charset_new : Option (List ℕ)} {Before Between After : List (List ZoneData) → Type 0}
+    → ((g : List ZoneData) → IsAtLines lines mid g old charset → WentOn lines left g new charset_new Between After) → WentOn lines mid given old charset Before Between → WentOn lines left given new charset_new Before After
 went_further more went =
     let further = more went.given_now went.at in
     record { given_now = further.given_now; at = further.at; handed = λ groups before. further.handed groups (went.handed groups before) }
 
-pub room_left : (lines left : List Reading) (given : List Entry) (r : Reader) (charset : Option (List ℕ)) → IsAtLines lines left given r charset → r.line ≤ length lines
+pub room_left : (lines left : List Reading) (given : List ZoneData) (r : Reader) (charset : Option (List ℕ)) → IsAtLines lines left given r charset → r.line ≤ length lines
 room_left lines left given r charset at = omega (arith, at.counted, ap length at.cut, length-append at.done left)
 
 -- ---- faults
 
 -- the line that comes next breaks a rule
-pub line_refused : (lines left : List Reading) (line : Reading) (given : List Entry) (r : Reader) (charset : Option (List ℕ)) (rule place : ℕ)
+pub line_refused : (lines left : List Reading) (line : Reading) (given : List ZoneData) (r : Reader) (charset : Option (List ℕ)) (rule place : ℕ)
     → Refuses r line rule place → IsAtLines lines (line ∷ left) given r charset → IsLeastBroken (BreaksIn lines) rule place
 line_refused lines left line given r charset rule place refuses at =
     refused_here lines at.done line left rule place at.cut at.sound (omega (arith, refuses.0, at.counted)) (ap (λ o. rule_of o line) (sym at.order) ∙ refuses.1)
 
 -- ---- the end
 
-all_come : (lines : List Reading) (given : List Entry) (r : Reader) (charset : Option (List ℕ)) (at : IsAtLines lines [] given r charset) → at.done ≡ lines
+all_come : (lines : List Reading) (given : List ZoneData) (r : Reader) (charset : Option (List ℕ)) (at : IsAtLines lines [] given r charset) → at.done ≡ lines
 all_come lines given r charset at = sym (at.cut ∙ append-nil at.done)
 
-pub end_refused : (bytes : List ℕ) (given : List Entry) (r : Reader) (charset : Option (List ℕ)) (rule place : ℕ) → EndFault r rule place → IsAtLines (readings_of bytes) [] given r charset → IsLeastBroken (BreaksLineRule bytes) rule place
+pub end_refused : (bytes : List ℕ) (given : List ZoneData) (r : Reader) (charset : Option (List ℕ)) (rule place : ℕ) → EndFault r rule place → IsAtLines (readings_of bytes) [] given r charset → IsLeastBroken (BreaksLineRule bytes) rule place
 end_refused bytes given r charset rule place h at =
     let all = all_come (readings_of bytes) given r charset at in
     refusal_of_end bytes r (fault.Broken rule place) (subst IsFaultless all at.sound) (at.order ∙ ap seen_in all) (at.counted ∙ ap length all) h
 
-pub end_unbroken : (bytes : List ℕ) (given : List Entry) (r : Reader) (charset : Option (List ℕ)) → r.order.eom ≡ true → IsAtLines (readings_of bytes) [] given r charset → IsUnbroken (BreaksLineRule bytes)
+pub end_unbroken : (bytes : List ℕ) (given : List ZoneData) (r : Reader) (charset : Option (List ℕ)) → r.order.eom ≡ true → IsAtLines (readings_of bytes) [] given r charset → IsUnbroken (BreaksLineRule bytes)
 end_unbroken bytes given r charset eom at =
     let all = all_come (readings_of bytes) given r charset at in
     unbroken_at_end bytes (subst IsFaultless all at.sound) (ap (λ o. o.eom) (sym (at.order ∙ ap seen_in all)) ∙ eom)
 
 -- all lines have come, and the rest is handed on
-pub all_handed : (bytes : List ℕ) (given zones : List Entry) (r : Reader) (charset charset_new : Option (List ℕ)) (Before After : List (List Entry) → Type 0)
+pub all_handed : (bytes : List ℕ) (given zones : List ZoneData) (r : Reader) (charset charset_new : Option (List ℕ)) (Before After : List (List ZoneData) → Type 0)
     → zones ≡ closed (zoned r) → r.order.eom ≡ true → charset_new ≡ charset_behind charset zones
-    → ((groups : List (List Entry)) → Before groups → After (groups ++ groups_of zones))
+    → ((groups : List (List ZoneData)) → Before groups → After (groups ++ groups_of zones))
     → IsAtLines (readings_of bytes) [] given r charset → IsHandedOut bytes charset_new (λ groups. Before (groups ++ groups_of given)) After
 all_handed bytes given zones r charset charset_new Before After is eom set on at =
     let come = all_come (readings_of bytes) given r charset at in
@@ -287,7 +287,7 @@ all_handed bytes given zones r charset charset_new Before After is eom set on at
     }
 
 -- the same with other records that were handed on before
-pub handed_by : (bytes : List ℕ) (charset : Option (List ℕ)) (Before Others After : List (List Entry) → Type 0) → ((groups : List (List Entry)) → Before groups → Others groups) → IsHandedOut bytes charset Others After → IsHandedOut bytes charset Before After
+pub handed_by : (bytes : List ℕ) (charset : Option (List ℕ)) (Before Others After : List (List ZoneData) → Type 0) → ((groups : List (List ZoneData)) → Before groups → Others groups) → IsHandedOut bytes charset Others After → IsHandedOut bytes charset Before After
 handed_by bytes charset Before Others After on h = record {
   zones = h.zones;
   of_file = h.of_file;
@@ -298,5 +298,5 @@ handed_by bytes charset Before Others After on h = record {
 }
 
 -- the same where nothing had been given at first
-pub handed_from_none : (bytes : List ℕ) (charset : Option (List ℕ)) (Before After : List (List Entry) → Type 0) → IsHandedOut bytes charset (λ groups. Before (groups ++ groups_of [])) After → IsHandedOut bytes charset Before After
+pub handed_from_none : (bytes : List ℕ) (charset : Option (List ℕ)) (Before After : List (List ZoneData) → Type 0) → IsHandedOut bytes charset (λ groups. Before (groups ++ groups_of [])) After → IsHandedOut bytes charset Before After
 handed_from_none bytes charset Before After h = handed_by bytes charset Before (λ groups. Before (groups ++ groups_of [])) After (λ groups before. subst Before (sym (append-nil groups)) before) h

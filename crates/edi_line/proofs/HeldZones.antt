@@ -2,7 +2,7 @@
 use Rattle.std.proofs.Common.{◌≡◌, ℕ, suc, ◌⊎◌, Bool, true, false, cond, Option, Some, None, is_some, option_map, option_to_list, Ok, Err, List, [], ◌∷◌, ◌++◌, length, refl, sym, ap, ap₂, ◌∙◌, subst, inl, inr, arith, length-append, IsSome}
 use Rattle.std.proofs.lemmas.Bool.{or_left}
 use Rattle.std.proofs.lemmas.List.{append-nil}
-use Rattle.edi_line.specs.Entry.{Entry}
+use Rattle.edi_line.specs.ZoneData.{ZoneData}
 use Rattle.edi_line.specs.Feeding.{Zoned, EndsInZone, HoldsZones}
 use Rattle.edi_line.specs.LineKinds.{kind_of, is_zone, starts, bears, some_bears}
 use Rattle.edi_line.specs.Spelling.{Reading}
@@ -105,10 +105,10 @@ push_same (z ∷ xs) (w ∷ ys) x y e =
     let more = push_same xs ys x y rest in
     (ap₂ (λ a rest. a ∷ rest) head more.0, more.1)
 
-abbrev zoned_made : List Entry → Option Entry → Zoned
+abbrev zoned_made : List ZoneData → Option ZoneData → Zoned
 zoned_made done open_zone = record { done = done; open_zone = open_zone }
 
-same_zoned : (xs ys : List Entry) (a b : Option Entry) → xs ++ option_to_list a ≡ ys ++ option_to_list b → (IsSome a → IsSome b) → (IsSome b → IsSome a) → zoned_made xs a ≡ zoned_made ys b
+same_zoned : (xs ys : List ZoneData) (a b : Option ZoneData) → xs ++ option_to_list a ≡ ys ++ option_to_list b → (IsSome a → IsSome b) → (IsSome b → IsSome a) → zoned_made xs a ≡ zoned_made ys b
 same_zoned xs ys None None e to back = ap (λ d. zoned_made d None) (sym (append-nil xs) ∙ e ∙ append-nil ys)
 same_zoned xs ys None (Some b) e to back = let h : false ≡ true = back refl in absurd cc
 same_zoned xs ys (Some a) None e to back = let h : false ≡ true = to refl in absurd cc

@@ -1,7 +1,7 @@
 -- The refusal of a file whose lines are known.
 use Rattle.std.proofs.Common.{◌≡◌, ℕ, ◌+◌, Bool, true, false, Option, Some, None, List, [], ◌∷◌, ◌++◌, length, refl, sym, ap, ◌∙◌, subst, inl}
 use Rattle.std.proofs.lemmas.List.{append-nil, append_assoc, length_push}
-use Rattle.edi_line.specs.Entry.{Entry}
+use Rattle.edi_line.specs.ZoneData.{ZoneData}
 use Rattle.edi_line.specs.Spelling.{Reading}
 use Rattle.edi_line.specs.inner.Zones.{readings_of}
 use Rattle.edi_line.proofs.ZonesFound.{zones_of}
@@ -90,5 +90,5 @@ sound_from done (line ∷ lines) sound e =
 pub unbroken_as : (bytes : List ℕ) → first_fault (seen_in []) 1 (readings_of bytes) ≡ None → IsUnbroken (BreaksLineRule bytes)
 unbroken_as bytes e = unbroken_said bytes (sound_from [] (readings_of bytes) none_before e)
 
-pub zones_as : (bytes : List ℕ) (zones : List Entry) → first_fault (seen_in []) 1 (readings_of bytes) ≡ None → zones ≡ zones_of bytes → IsZonesOf bytes zones
+pub zones_as : (bytes : List ℕ) (zones : List ZoneData) → first_fault (seen_in []) 1 (readings_of bytes) ≡ None → zones ≡ zones_of bytes → IsZonesOf bytes zones
 zones_as bytes zones e is = zones_said bytes zones (record { readable = λ rule place own broken. sound_from [] (readings_of bytes) none_before e rule place (inl broken); is = is })

@@ -1,7 +1,7 @@
 -- A reader on its way through the lines of a file.
 use Rattle.std.proofs.Common.{◌≡◌, ℕ, ◌+◌, true, false, Some, Result, Ok, Err, List, [], ◌∷◌, ◌++◌, length, take, drop, map, sym, ap, ◌∙◌, subst, arith, IfOk, IfErr, OnOk, Vec, Global}
 use Rattle.std.proofs.lemmas.List.{append-nil, append_assoc, length_push, take-append-drop, length-take-le, length-drop, take_at, drop_at}
-use Rattle.edi_line.specs.Entry.{Entry, entries}
+use Rattle.edi_line.specs.ZoneData.{ZoneData, entries}
 use Rattle.edi_line.specs.Lines.{content_of}
 use Rattle.edi_line.specs.inner.Lines.{lines_of}
 use Rattle.edi_line.specs.Spelling.{Reading}
@@ -109,7 +109,7 @@ end_sound bytes r (Ok zones) s h = unbroken_at_end bytes s.sound (ap (λ o. o.eo
 end_sound bytes r (Err f) s h = tt
 
 -- the zones of lines that break no rule
-pub zones_of_all : (bytes : List ℕ) (zones : List Entry) → IsFaultless (readings_of bytes) → zones ≡ closed (zoned_after no_zones (parts_after 0 (readings_of bytes))) → IsZonesOf bytes zones
+pub zones_of_all : (bytes : List ℕ) (zones : List ZoneData) → IsFaultless (readings_of bytes) → zones ≡ closed (zoned_after no_zones (parts_after 0 (readings_of bytes))) → IsZonesOf bytes zones
 zones_of_all bytes zones sound e = zones_said bytes zones (record {
   readable = λ rule place own broken. sound rule place broken;
   is = e ∙ closed_zones (parts_after 0 (readings_of bytes));

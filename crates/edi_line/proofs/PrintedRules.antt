@@ -3,7 +3,7 @@ use Rattle.std.proofs.Common.{◌≡◌, ℕ, ◌+◌, ◌<◌, ◌≤◌, Bool,
 use Rattle.std.specs.List.{AllByRecursion}
 use Rattle.std.proofs.lemmas.Bool.{both_ways, ne_eqb}
 use Rattle.std.proofs.lemmas.List.{append_assoc, append-nil}
-use Rattle.edi_line.specs.Entry.{Entry}
+use Rattle.edi_line.specs.ZoneData.{ZoneData}
 use Rattle.edi_line.specs.Spelling.{Reading}
 use Rattle.edi_line.specs.Zones.{IsGroup, IsFileOf}
 use Rattle.edi_line.specs.inner.Zones.{readings_of}
@@ -34,7 +34,7 @@ abbrev in_file : Bool → Bool → Bool → ℕ → Order
 in_file cse rty eom records = record { started = true; begun = true; bom = true; cse = cse; rty = rty; eom = eom; records = records }
 
 -- NEX lines change nothing
-next_runs : (cse rty eom : Bool) (records : ℕ) (ws : List Entry) → AllByRecursion (λ w. kind_of w.code ≡ Next) ws → Runs (in_file cse rty eom records) (map said ws) (in_file cse rty eom records)
+next_runs : (cse rty eom : Bool) (records : ℕ) (ws : List ZoneData) → AllByRecursion (λ w. kind_of w.code ≡ Next) ws → Runs (in_file cse rty eom records) (map said ws) (in_file cse rty eom records)
 next_runs cse rty eom records [] h = refl
 next_runs cse rty eom records (w ∷ ws) h =
     let same : noted (in_file cse rty eom records) (said w) ≡ in_file cse rty eom records = rw (h.0) (kept cse rty eom records) in
@@ -52,7 +52,7 @@ next_runs cse rty eom records (w ∷ ws) h =
         ∙ ap (λ x. in_file c r e x) (omega arith)
 
 -- the lines of a zone, whose kind breaks no rule and is noted so
-zone_runs : (z : Entry) → IsPrintable z → (seen : Order) (cse rty eom : Bool) (records : ℕ) → rule_of_kind seen (kind_of z.code) ≡ None → noted_kind seen (kind_of z.code) ≡ in_file cse rty eom records
+zone_runs : (z : ZoneData) → IsPrintable z → (seen : Order) (cse rty eom : Bool) (records : ℕ) → rule_of_kind seen (kind_of z.code) ≡ None → noted_kind seen (kind_of z.code) ≡ in_file cse rty eom records
     → Runs seen (map said (lines_of_zone z)) (in_file cse rty eom records)
 zone_runs z p seen cse rty eom records none note =
     let b = lines_broken z p in
@@ -60,13 +60,13 @@ zone_runs z p seen cse rty eom records none note =
     subst (λ zs. Runs seen (map said zs) (in_file cse rty eom records)) (sym b.lines)
     (none, subst (λ o. Runs o (map said b.rest) (in_file cse rty eom records)) (sym note) (next_runs cse rty eom records b.rest b.next))
 
-step_runs : (z : Entry) (zs : List Entry) → IsPrintable z → (seen last : Order) (cse rty eom : Bool) (records : ℕ) → rule_of_kind seen (kind_of z.code) ≡ None → noted_kind seen (kind_of z.code) ≡ in_file cse rty eom records
+step_runs : (z : ZoneData) (zs : List ZoneData) → IsPrintable z → (seen last : Order) (cse rty eom : Bool) (records : ℕ) → rule_of_kind seen (kind_of z.code) ≡ None → noted_kind seen (kind_of z.code) ≡ in_file cse rty eom records
     → Runs (in_file cse rty eom records) (readings_of (printed zs)) last → Runs seen (readings_of (printed (z ∷ zs))) last
 step_runs z zs p seen last cse rty eom records none note more =
     subst (λ rs. Runs seen rs last) (sym (zone_readings z (printed zs) p))
     (joined seen (in_file cse rty eom records) last (map said (lines_of_zone z)) (readings_of (printed zs)) (zone_runs z p seen cse rty eom records none note) more)
 
-abbrev ArePrintable : List Entry → Type 0
+abbrev ArePrintable : List ZoneData → Type 0
 ArePrintable zs = AllByRecursion IsPrintable zs
 
 or_same : (b : Bool) → (b || false) ≡ b
@@ -88,7 +88,7 @@ only_other Remark zone inner = cc
 only_other Other zone inner = refl
 
 -- the other zones of a record
-others_run : (zs rest : List Entry) (cse : Bool) (records : ℕ) (last : Order) → ArePrintable zs → AllByRecursion (λ z. is_inner (kind_of z.code) ≡ true) zs
+others_run : (zs rest : List ZoneData) (cse : Bool) (records : ℕ) (last : Order) → ArePrintable zs → AllByRecursion (λ z. is_inner (kind_of z.code) ≡ true) zs
     → Runs (in_file cse true false records) (readings_of (printed rest)) last → Runs (in_file cse true false records) (readings_of (printed (zs ++ rest))) last
 others_run [] rest cse records last p h more = more
 others_run (z ∷ zs) rest cse records last p h more =
@@ -107,11 +107,11 @@ eom_noted : (cse rty : Bool) (n : ℕ) → noted_kind (in_file cse rty false n) 
 eom_noted cse rty n = ap (λ x. in_file x (rty || false) true (n + 0)) (or_same cse) ∙ ap (λ x. in_file cse x true (n + 0)) (or_same rty) ∙ ap (λ x. in_file cse rty true x) (let e : n + 0 ≡ n = omega arith in e)
 
 -- the printable zones of lists
-printable_left : (xs ys : List Entry) → ArePrintable (xs ++ ys) → ArePrintable xs
+printable_left : (xs ys : List ZoneData) → ArePrintable (xs ++ ys) → ArePrintable xs
 printable_left [] ys h = tt
 printable_left (x ∷ xs) ys h = (h.0, printable_left xs ys h.1)
 
-printable_right : (xs ys : List Entry) → ArePrintable (xs ++ ys) → ArePrintable ys
+printable_right : (xs ys : List ZoneData) → ArePrintable (xs ++ ys) → ArePrintable ys
 printable_right [] ys h = h
 printable_right (x ∷ xs) ys h = printable_right xs ys h.1
 
@@ -121,7 +121,7 @@ record Ends (seen : Order) (lines : List Reading) : Type 0 where
   runs : Runs seen lines last
   eom : last.eom ≡ true
 
-groups_run : (gs : List (List Entry)) (tail : Entry) (cse rty : Bool) (n : ℕ) → ArePrintable (flat_map (λ g. g) gs ++ tail ∷ []) → AllByRecursion IsGroup gs → kind_of tail.code ≡ Eom → n + length gs ≤ 9999999
+groups_run : (gs : List (List ZoneData)) (tail : ZoneData) (cse rty : Bool) (n : ℕ) → ArePrintable (flat_map (λ g. g) gs ++ tail ∷ []) → AllByRecursion IsGroup gs → kind_of tail.code ≡ Eom → n + length gs ≤ 9999999
     → Ends (in_file cse rty false n) (readings_of (printed (flat_map (λ g. g) gs ++ tail ∷ [])))
 groups_run [] tail cse rty n p h e few = record {
   last = in_file cse rty true n;
@@ -142,14 +142,14 @@ groups_run (g ∷ gs) tail cse rty n p h e few =
       eom = more.eom;
     }
 
-charset_runs : (charset : Option Entry) (zs : List Entry) → IfSome charset (λ z. kind_of z.code ≡ Cse) → ArePrintable (option_to_list charset ++ zs)
+charset_runs : (charset : Option ZoneData) (zs : List ZoneData) → IfSome charset (λ z. kind_of z.code ≡ Cse) → ArePrintable (option_to_list charset ++ zs)
     → ((cse : Bool) → Ends (in_file cse false false 0) (readings_of (printed zs))) → Ends (in_file false false false 0) (readings_of (printed (option_to_list charset ++ zs)))
 charset_runs None zs h p more = more false
 charset_runs (Some z) zs h p more =
     let m = more true in
     record { last = m.last; runs = step_runs z zs p.0 (in_file false false false 0) m.last true false false 0 (rw h refl) (rw h refl) m.runs; eom = m.eom }
 
-file_runs : (zones : List Entry) (charset : Option Entry) (groups : List (List Entry)) → IsFileOf zones charset groups → ArePrintable zones → length groups ≤ 9999999 → Ends (seen_in []) (readings_of (printed zones))
+file_runs : (zones : List ZoneData) (charset : Option ZoneData) (groups : List (List ZoneData)) → IsFileOf zones charset groups → ArePrintable zones → length groups ≤ 9999999 → Ends (seen_in []) (readings_of (printed zones))
 file_runs zones charset groups f p few =
     let body = flat_map (λ g. g) groups ++ f.tail ∷ [] in
     let all : ArePrintable (f.head ∷ (option_to_list charset ++ body)) = subst ArePrintable f.joined p in
@@ -179,7 +179,7 @@ all_seen : (done lines : List Reading) (last : Order) → Runs (seen_in done) li
 all_seen done [] last run = sym run ∙ ap seen_in (sym (append-nil done))
 all_seen done (x ∷ xs) last run = all_seen (done ++ x ∷ []) xs last (subst (λ o. Runs o xs last) (noted_seen done x) run.1) ∙ ap seen_in (append_assoc done (x ∷ []) xs)
 
-pub printed_unbroken : (zones : List Entry) (charset : Option Entry) (groups : List (List Entry)) → IsFileOf zones charset groups → AllByRecursion IsPrintable zones → length groups ≤ 9999999 → IsUnbroken (BreaksLineRule (printed zones))
+pub printed_unbroken : (zones : List ZoneData) (charset : Option ZoneData) (groups : List (List ZoneData)) → IsFileOf zones charset groups → AllByRecursion IsPrintable zones → length groups ≤ 9999999 → IsUnbroken (BreaksLineRule (printed zones))
 printed_unbroken zones charset groups f p few rule place broken = along (rule_read (printed zones) rule place broken)
   where
     along : BreaksIn (readings_of (printed zones)) rule place → ⊥

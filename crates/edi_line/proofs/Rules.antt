@@ -4,7 +4,7 @@ use Rattle.std.specs.List.{list_any}
 use Rattle.std.proofs.lemmas.Bool.{both_ways}
 use Rattle.std.proofs.lemmas.List.{append-nil, append_assoc, length_push}
 use Rattle.std.proofs.lemmas.List.Sums.{sum_by_push}
-use Rattle.edi_line.specs.Entry.{Entry}
+use Rattle.edi_line.specs.ZoneData.{ZoneData}
 use Rattle.edi_line.specs.Spelling.{Spelling, Reading}
 use Rattle.edi_line.specs.inner.Zones.{Part, part_of, parts_after, with_more}
 use Rattle.edi_line.proofs.ZonesFound.{continuation, whole_zones}
@@ -103,17 +103,17 @@ noted_seen done (Err rule) = same_seen done (Err rule) (λ p. refl)
 
 -- ---- the zones so far
 
-abbrev completed : Zoned → List Part → List Entry
+abbrev completed : Zoned → List Part → List ZoneData
 completed z parts = z.done ++ (option_to_list (option_map (with_more (continuation parts)) z.open_zone) ++ whole_zones parts)
 
-abbrev with_value : Entry → List ℕ → Entry
+abbrev with_value : ZoneData → List ℕ → ZoneData
 with_value z v = record { line = z.line; code = z.code; nature = z.nature; format = z.format; value = v }
 
-more_on : (o : Option Entry) (v more : List ℕ) → option_to_list (option_map (with_more more) (option_map (with_more v) o)) ≡ option_to_list (option_map (with_more (v ++ more)) o)
+more_on : (o : Option ZoneData) (v more : List ℕ) → option_to_list (option_map (with_more more) (option_map (with_more v) o)) ≡ option_to_list (option_map (with_more (v ++ more)) o)
 more_on None v more = refl
 more_on (Some z) v more = ap (λ t. with_value z t ∷ []) (append_assoc z.value v more)
 
-nothing_on : (o : Option Entry) → option_to_list (option_map (with_more []) o) ≡ option_to_list o
+nothing_on : (o : Option ZoneData) → option_to_list (option_map (with_more []) o) ≡ option_to_list o
 nothing_on None = refl
 nothing_on (Some z) = ap (λ t. with_value z t ∷ []) (append-nil z.value)
 

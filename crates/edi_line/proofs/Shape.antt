@@ -3,7 +3,7 @@ use Rattle.std.proofs.Common.{◌≡◌, ℕ, suc, ◌+◌, Bool, true, false, �
 use Rattle.std.specs.List.{AllByRecursion, flat_map}
 use Rattle.std.proofs.lemmas.Bool.{and_from, or_left}
 use Rattle.std.proofs.lemmas.List.{append_assoc, append-nil}
-use Rattle.edi_line.specs.Entry.{Entry, entries}
+use Rattle.edi_line.specs.ZoneData.{ZoneData, entries}
 use Rattle.edi_line.specs.Spelling.{Spelling, Reading}
 use Rattle.edi_line.specs.Zones.{IsGroup, HasShape, begins_group, groups_of}
 use Rattle.edi_line.specs.inner.Zones.{part_by, parts_after, with_more, entry_of}
@@ -49,7 +49,7 @@ after_end : (seen : Order) (kind : ZoneKind) → is_zone kind ≡ true → seen.
 after_end seen kind zone eom e = none_broken (kind_tests seen kind) e 107 (inr (inr (inl (refl, and_from _ _ zone eom))))
 
 -- the entries of these lines
-abbrev zones_after : ℕ → List Reading → List Entry
+abbrev zones_after : ℕ → List Reading → List ZoneData
 zones_after n lines = whole_zones (parts_after n lines)
 
 none_after : (seen : Order) (n : ℕ) (lines : List Reading) → seen.eom ≡ true → IsGood seen lines → zones_after n lines ≡ []
@@ -71,10 +71,10 @@ none_after seen n (Err rule ∷ lines) eom good = let e : Some rule ≡ None = g
 -- ---- within the records
 
 -- the rest of a group, groups, and the end
-record IsTail (zones : List Entry) : Type 0 where
-  rest : List Entry
-  groups : List (List Entry)
-  tail : Entry
+record IsTail (zones : List ZoneData) : Type 0 where
+  rest : List ZoneData
+  groups : List (List ZoneData)
+  tail : ZoneData
   joined : zones ≡ rest ++ (flat_map (λ g. g) groups ++ tail ∷ [])
   others : AllByRecursion (λ z. is_inner (kind_of z.code) ≡ true) rest
   groups_are : AllByRecursion IsGroup groups
@@ -90,11 +90,11 @@ abbrev none_yet : Bool → ℕ → Order
 none_yet started records = record { started = started; begun = false; bom = false; cse = false; rty = false; eom = false; records = records }
 
 -- the zone of this line
-abbrev whole_zone : ℕ → Spelling → List Reading → Entry
+abbrev whole_zone : ℕ → Spelling → List Reading → ZoneData
 whole_zone n s lines = with_more (continuation (parts_after (suc n) lines)) (entry_of (suc n) s)
 
 -- a group that begins here
-group_here : (z : Entry) (zones : List Entry) → kind_of z.code ≡ Rty → IsTail zones → IsTail (z ∷ zones)
+group_here : (z : ZoneData) (zones : List ZoneData) → kind_of z.code ≡ Rty → IsTail zones → IsTail (z ∷ zones)
 group_here z zones leads t = record {
   rest = [];
   groups = (z ∷ t.rest) ∷ t.groups;
@@ -105,7 +105,7 @@ group_here z zones leads t = record {
   tail_is = t.tail_is;
 }
 
-other_here : (z : Entry) (zones : List Entry) → kind_of z.code ≡ Other → IsTail zones → IsTail (z ∷ zones)
+other_here : (z : ZoneData) (zones : List ZoneData) → kind_of z.code ≡ Other → IsTail zones → IsTail (z ∷ zones)
 other_here z zones other t = record {
   rest = z ∷ t.rest;
   groups = t.groups;
@@ -116,7 +116,7 @@ other_here z zones other t = record {
   tail_is = t.tail_is;
 }
 
-end_here : (z : Entry) (zones : List Entry) → kind_of z.code ≡ Eom → zones ≡ [] → IsTail (z ∷ zones)
+end_here : (z : ZoneData) (zones : List ZoneData) → kind_of z.code ≡ Eom → zones ≡ [] → IsTail (z ∷ zones)
 end_here z zones end none = record {
   rest = [];
   groups = [];
@@ -151,14 +151,14 @@ tail_of cse r n (Ok (Some s) ∷ lines) good =
 -- ---- before the records
 
 -- groups, and the end
-record IsBody (zones : List Entry) : Type 0 where
-  groups : List (List Entry)
-  tail : Entry
+record IsBody (zones : List ZoneData) : Type 0 where
+  groups : List (List ZoneData)
+  tail : ZoneData
   joined : zones ≡ flat_map (λ g. g) groups ++ tail ∷ []
   groups_are : AllByRecursion IsGroup groups
   tail_is : kind_of tail.code ≡ Eom
 
-first_group : (z : Entry) (zones : List Entry) → kind_of z.code ≡ Rty → IsTail zones → IsBody (z ∷ zones)
+first_group : (z : ZoneData) (zones : List ZoneData) → kind_of z.code ≡ Rty → IsTail zones → IsBody (z ∷ zones)
 first_group z zones leads t = record {
   groups = (z ∷ t.rest) ∷ t.groups;
   tail = t.tail;
@@ -167,7 +167,7 @@ first_group z zones leads t = record {
   tail_is = t.tail_is;
 }
 
-only_end : (z : Entry) (zones : List Entry) → kind_of z.code ≡ Eom → zones ≡ [] → IsBody (z ∷ zones)
+only_end : (z : ZoneData) (zones : List ZoneData) → kind_of z.code ≡ Eom → zones ≡ [] → IsBody (z ∷ zones)
 only_end z zones end none = record { groups = []; tail = z; joined = ap (λ zs. z ∷ zs) none; groups_are = tt; tail_is = end }
 
 body_of : (r n : ℕ) (lines : List Reading) → IsGood (before_records true r) lines → IsBody (zones_after n lines)
@@ -187,14 +187,14 @@ body_of r n (Ok (Some s) ∷ lines) good = here (λ m more. body_of m (suc n) li
     here more Remark e g = more _ g.1
 
 -- the character set or nothing, groups, and the end
-record IsFront (zones : List Entry) : Type 0 where
-  charset : Option Entry
-  body : List Entry
+record IsFront (zones : List ZoneData) : Type 0 where
+  charset : Option ZoneData
+  body : List ZoneData
   joined : zones ≡ option_to_list charset ++ body
   charset_is : IfSome charset (λ z. kind_of z.code ≡ Cse)
   is_body : IsBody body
 
-bare : (zones : List Entry) → IsBody zones → IsFront zones
+bare : (zones : List ZoneData) → IsBody zones → IsFront zones
 bare zones b = record { charset = None; body = zones; joined = refl; charset_is = tt; is_body = b }
 
 front_of : (r n : ℕ) (lines : List Reading) → IsGood (before_records false r) lines → IsFront (zones_after n lines)
@@ -213,7 +213,7 @@ front_of r n (Ok (Some s) ∷ lines) good = here (λ m more. front_of m (suc n) 
     here more Next e g = more _ g.1
     here more Remark e g = more _ g.1
 
-shaped : (z : Entry) (zones : List Entry) → kind_of z.code ≡ Bom → IsFront zones → HasShape (z ∷ zones)
+shaped : (z : ZoneData) (zones : List ZoneData) → kind_of z.code ≡ Bom → IsFront zones → HasShape (z ∷ zones)
 shaped z zones head f = (
   f.charset,
   f.is_body.groups,
@@ -256,7 +256,7 @@ abbrev Zones : Type 0
 Zones = Result (Vec Zone Global) LineFault
 
 -- the zones of lines that break no rule, and of which one is an end
-pub shape_of_all : (lines : List Reading) (zones : List Entry) → IsFaultless lines → (seen_in lines).eom ≡ true → zones ≡ closed (zoned_after no_zones (parts_after 0 lines)) → HasShape zones
+pub shape_of_all : (lines : List Reading) (zones : List ZoneData) → IsFaultless lines → (seen_in lines).eom ≡ true → zones ≡ closed (zoned_after no_zones (parts_after 0 lines)) → HasShape zones
 shape_of_all lines zones sound eom e =
     subst HasShape (sym (e ∙ closed_zones (parts_after 0 lines))) (shape_of false 0 0 lines (good_from [] lines sound eom))
 
@@ -267,7 +267,7 @@ end_shape lines r (Err f) s h = tt
 
 -- ---- how many records there are
 
-begins_as : (kind : ZoneKind) (z : Entry) → kind_of z.code ≡ kind → begins_group z ≡ is_rty kind
+begins_as : (kind : ZoneKind) (z : ZoneData) → kind_of z.code ≡ kind → begins_group z ≡ is_rty kind
 begins_as Bom z e = ap (λ c. bytes_eq c (codes "RTY")) (code_bom z.code e)
 begins_as Cse z e = ap (λ c. bytes_eq c (codes "RTY")) (code_cse z.code e)
 begins_as Rty z e = ap (λ c. bytes_eq c (codes "RTY")) (code_rty z.code e)
@@ -276,10 +276,10 @@ begins_as Next z e = (code_inner z.code (ap is_inner e)).2
 begins_as Remark z e = (code_inner z.code (ap is_inner e)).2
 begins_as Other z e = (code_inner z.code (ap is_inner e)).2
 
-one_more_group : (z : Entry) (zones : List Entry) → begins_group z ≡ true → length (groups_of (z ∷ zones)) ≡ length (groups_of zones) + 1
+one_more_group : (z : ZoneData) (zones : List ZoneData) → begins_group z ≡ true → length (groups_of (z ∷ zones)) ≡ length (groups_of zones) + 1
 one_more_group z zones e = rw e (omega arith)
 
-no_more_group : (z : Entry) (zones : List Entry) → begins_group z ≡ false → length (groups_of (z ∷ zones)) ≡ length (groups_of zones)
+no_more_group : (z : ZoneData) (zones : List ZoneData) → begins_group z ≡ false → length (groups_of (z ∷ zones)) ≡ length (groups_of zones)
 no_more_group z zones e = rw e refl
 
 -- an RTY that breaks no rule isn't that of record 10,000,000
@@ -314,7 +314,7 @@ few_groups seen n (Ok (Some s) ∷ lines) few good = here (λ o less more. few_g
         let rest = more (noted_kind seen Rty) room g.1 in
         omega (arith, rest, one_more_group (whole_zone n s lines) (zones_after (suc n) lines) (begins_as Rty (whole_zone n s lines) e))
 
-pub few_of_all : (lines : List Reading) (zones : List Entry) → IsFaultless lines → (seen_in lines).eom ≡ true → zones ≡ closed (zoned_after no_zones (parts_after 0 lines)) → length (groups_of zones) ≤ 9999999
+pub few_of_all : (lines : List Reading) (zones : List ZoneData) → IsFaultless lines → (seen_in lines).eom ≡ true → zones ≡ closed (zoned_after no_zones (parts_after 0 lines)) → length (groups_of zones) ≤ 9999999
 few_of_all lines zones sound eom e =
     subst (λ zs. length (groups_of zs) ≤ 9999999) (sym (e ∙ closed_zones (parts_after 0 lines)))
     (let few : 0 + length (groups_of (zones_after 0 lines)) ≤ 9999999 = few_groups (seen_in []) 0 lines (lit≤ tt) (good_from [] lines sound eom) in omega (arith, few))

@@ -2,7 +2,7 @@
 use Rattle.std.proofs.Common.{◌≡◌, ℕ, zero, suc, ◌+◌, ◌-◌, ◌≤◌, ◌==◌, Bool, true, false, not, ◌&&◌, refl, sym, ap, ◌∙◌, List, [], ◌∷◌, ◌++◌, length, map, Option, Some, None, option_map, option_to_list, slice_index_or, slice_set, take, arith}
 use Rattle.std.proofs.Math.Bool.{and-true}
 use Rattle.std.proofs.lemmas.List.{append-nil, append_assoc, map-append, length-map}
-use Rattle.edi_line.specs.Entry.{Entry, entry, entries}
+use Rattle.edi_line.specs.ZoneData.{ZoneData, entry, entries}
 use Rattle.edi_line.specs.Feeding.{Zoned}
 use Rattle.edi_line.specs.Zones.{ends_group}
 use Rattle.edi_line.specs.inner.Borrowed.{begins_at}
@@ -123,7 +123,7 @@ open_mapped f true [] = refl
 open_mapped f true (x ∷ []) = refl
 open_mapped f true (x ∷ (y ∷ ys)) = open_mapped f true (y ∷ ys)
 
-abbrev zoned_by : List Entry → Option Entry → Zoned
+abbrev zoned_by : List ZoneData → Option ZoneData → Zoned
 zoned_by done open_zone = record { done = done; open_zone = open_zone }
 
 pub same_zoned : (is_open : Bool) (xs ys : List Zone) → entries xs ≡ entries ys
@@ -134,7 +134,7 @@ same_zoned is_open xs ys e =
     ap (λ d. zoned_by d (option_map entry (open_of is_open xs))) done ∙ ap (zoned_by (entries (done_of is_open ys))) last
 
 -- a zone more whose entry is that of the next one
-pub zone_moved : (all : List Entry) (moved zone : Zone) (rest : List Zone) (moved_all : List Zone) → entries moved_all ++ entries (zone ∷ rest) ≡ all → entry moved ≡ entry zone
+pub zone_moved : (all : List ZoneData) (moved zone : Zone) (rest : List Zone) (moved_all : List Zone) → entries moved_all ++ entries (zone ∷ rest) ≡ all → entry moved ≡ entry zone
     → entries (moved_all ++ moved ∷ []) ++ entries rest ≡ all
 zone_moved all moved zone rest moved_all e same =
     ap (λ l. l ++ entries rest) (map-append entry moved_all (moved ∷ []))

@@ -3,7 +3,7 @@ use Rattle.std.proofs.Common.{◌≡◌, ℕ, suc, ◌+◌, ◌||◌, Bool, true
 use Rattle.std.specs.List.{flat_map}
 use Rattle.std.proofs.lemmas.Bool.{both_ways}
 use Rattle.std.proofs.lemmas.List.{length_push}
-use Rattle.edi_line.specs.Entry.{Entry}
+use Rattle.edi_line.specs.ZoneData.{ZoneData}
 use Rattle.edi_line.specs.LineKinds.{kind_of, is_zone, starts, bears, some_bears}
 use Rattle.edi_line.specs.LineRules.{BreaksAt, IsZonesOf}
 use Rattle.edi_line.specs.Made.{AreMadeFrom}
@@ -81,16 +81,16 @@ one_continuation behind more other g h = g.is ∙ one_stretch g.stretch h.stretc
 
 -- ---- the zones
 
-zone_one : (front : List Reading) (line : Reading) (behind : List Reading) (z y : Entry) → IsZoneAt front line behind z → IsZoneAt front line behind y → z ≡ y
+zone_one : (front : List Reading) (line : Reading) (behind : List Reading) (z y : ZoneData) → IsZoneAt front line behind z → IsZoneAt front line behind y → z ≡ y
 zone_one front line behind z y h k =
     let e : ◌≡◌ {A = Reading} (Ok (Some h.spelled)) (Ok (Some k.spelled)) = sym h.says ∙ k.says in
     let same : h.spelled ≡ k.spelled = cc in
     h.is ∙ ap (λ s. zone_at (length front + 1) s h.more) same ∙ ap (zone_at (length front + 1) k.spelled) (one_continuation behind h.more k.more h.goes_on k.goes_on) ∙ sym k.is
 
-pub zones_one : (lines : List Reading) (zones others : List Entry) → IsZonesIn lines zones → IsZonesIn lines others → zones ≡ others
+pub zones_one : (lines : List Reading) (zones others : List ZoneData) → IsZonesIn lines zones → IsZonesIn lines others → zones ≡ others
 zones_one lines zones others h k = made_one (λ front line. bears is_zone line ≡ true) IsZoneAt zone_one [] lines zones others h k
 
-abbrev ZonesFrom : List Reading → List Reading → List Entry → Type 0
+abbrev ZonesFrom : List Reading → List Reading → List ZoneData → Type 0
 ZonesFrom front lines zones = AreMadeFrom (λ front line. bears is_zone line ≡ true) IsZoneAt front lines zones
 
 -- the next line, and the lines behind it
@@ -109,7 +109,7 @@ zones_from front (Ok (Some s) ∷ lines) = by (kind_of s.code) refl (next_zones 
     n : ℕ
     n = length front
 
-    behind : List Entry
+    behind : List ZoneData
     behind = whole_zones (parts_after (suc n) lines)
 
     begun : is_zone (kind_of s.code) ≡ true → ZonesFrom (front ++ Ok (Some s) ∷ []) lines behind
@@ -145,12 +145,12 @@ zones_from front (Ok (Some s) ∷ lines) = by (kind_of s.code) refl (next_zones 
 pub zones_exist : (lines : List Reading) → IsZonesIn lines (zones_in lines)
 zones_exist lines = zones_from [] lines
 
-pub zones_are : (lines : List Reading) (zones : List Entry) → IsZonesIn lines zones → zones ≡ zones_in lines
+pub zones_are : (lines : List Reading) (zones : List ZoneData) → IsZonesIn lines zones → zones ≡ zones_in lines
 zones_are lines zones h = zones_one lines zones (zones_in lines) h (zones_exist lines)
 
 -- ---- the zones of a file
 
-pub zones_said : (bytes : List ℕ) (zones : List Entry) → AreZonesRead bytes zones → IsZonesOf bytes zones
+pub zones_said : (bytes : List ℕ) (zones : List ZoneData) → AreZonesRead bytes zones → IsZonesOf bytes zones
 zones_said bytes zones h = record {
   readings = readings_of bytes;
   say = readings_exist bytes;
@@ -158,7 +158,7 @@ zones_said bytes zones h = record {
   zones_in = subst (IsZonesIn (readings_of bytes)) (sym h.is) (zones_exist (readings_of bytes));
 }
 
-pub zones_read : (bytes : List ℕ) (zones : List Entry) → IsZonesOf bytes zones → AreZonesRead bytes zones
+pub zones_read : (bytes : List ℕ) (zones : List ZoneData) → IsZonesOf bytes zones → AreZonesRead bytes zones
 zones_read bytes zones h =
     let same = readings_are bytes h.readings h.say in
     record {
@@ -166,5 +166,5 @@ zones_read bytes zones h =
       is = zones_are h.readings zones h.zones_in ∙ ap zones_in same;
     }
 
-pub zones_of_one : (bytes : List ℕ) (zones others : List Entry) → IsZonesOf bytes zones → IsZonesOf bytes others → zones ≡ others
+pub zones_of_one : (bytes : List ℕ) (zones others : List ZoneData) → IsZonesOf bytes zones → IsZonesOf bytes others → zones ≡ others
 zones_of_one bytes zones others h k = (zones_read bytes zones h).is ∙ sym (zones_read bytes others k).is

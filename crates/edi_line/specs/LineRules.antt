@@ -1,7 +1,7 @@
 -- The rules of lines.
 use Rattle.std.specs.Prelude.{◌≡◌, ℕ, ◌+◌, ◌≤◌, ◌⊎◌, false, ◌&&◌, ◌||◌, not, ◌==◌, List, [], ◌∷◌, ◌++◌, length, Err, count_by}
 use Rattle.edi_line.specs.Bytes.{most_records}
-use Rattle.edi_line.specs.Entry.{Entry}
+use Rattle.edi_line.specs.ZoneData.{ZoneData}
 use Rattle.edi_line.specs.LineKinds.{is_bom, is_cse, is_rty, is_eom, is_other, is_next, is_zone, starts, bears, some_bears}
 use Rattle.edi_line.specs.Refusal.{Test, test, BreaksTest}
 use Rattle.edi_line.specs.Spelling.{Reading, AreReadings}
@@ -55,7 +55,7 @@ pub record BreaksLineRule (bytes : List ℕ) (rule place : ℕ) : Type 0 where
   pub breaks : BreaksIn readings rule place
 
 -- no line breaks 101 to 104, and these are the zones of the lines
-pub record IsZonesOf (bytes : List ℕ) (zones : List Entry) : Type 0 where
+pub record IsZonesOf (bytes : List ℕ) (zones : List ZoneData) : Type 0 where
   pub readings : List Reading
   pub say : AreReadings bytes readings
   pub readable : (rule place : ℕ) → rule ≤ 104 → ¬ (BreaksAt readings rule place)

@@ -2,7 +2,7 @@
 use Rattle.std.specs.Prelude.{◌≡◌, ℕ, ◌+◌, Bool, true, false, ◌||◌, List, [], ◌∷◌, ◌++◌, length, if◌then◌else◌, Option, Some, None, Ok, Err, filter, option_to_list, IfSome, codes}
 use Rattle.std.specs.List.{flat_map, AllByRecursion}
 use Rattle.std.specs.Cow.{IsOwnedSlice}
-use Rattle.edi_line.specs.Entry.{Entry, has_code, first}
+use Rattle.edi_line.specs.ZoneData.{ZoneData, has_code, first}
 use Rattle.edi_line.specs.LineKinds.{kind_of, is_inner, is_next, is_zone, starts, bears, some_bears}
 use Rattle.edi_line.specs.Made.{AreMadeFrom}
 use Rattle.edi_line.specs.Spelling.{Spelling, Reading}
@@ -27,12 +27,12 @@ pub record GoesOn (behind : List Reading) (more : List ℕ) : Type 0 where
   pub is : more ≡ flat_map value_in stretch
 
 -- the zone that a line with this number begins, with more behind its value
-abbrev pub zone_at : ℕ → Spelling → List ℕ → Entry
+abbrev pub zone_at : ℕ → Spelling → List ℕ → ZoneData
 zone_at line s more =
     record { line = line; code = s.code; nature = s.nature; format = s.format; value = s.value ++ more }
 
 -- the zone of a line behind others and in front of others
-pub record IsZoneAt (front : List Reading) (line : Reading) (behind : List Reading) (zone : Entry) : Type 0 where
+pub record IsZoneAt (front : List Reading) (line : Reading) (behind : List Reading) (zone : ZoneData) : Type 0 where
   pub spelled : Spelling
   pub more : List ℕ
   pub says : line ≡ Ok (Some spelled)
@@ -40,7 +40,7 @@ pub record IsZoneAt (front : List Reading) (line : Reading) (behind : List Readi
   pub is : zone ≡ zone_at (length front + 1) spelled more
 
 -- a zone for each line that is neither blank nor NEX nor a remark, in the order of the lines
-abbrev pub IsZonesIn : List Reading → List Entry → Type 0
+abbrev pub IsZonesIn : List Reading → List ZoneData → Type 0
 IsZonesIn lines zones = AreMadeFrom (λ front line. bears is_zone line ≡ true) IsZoneAt [] lines zones
 
 -- a NEX line stands behind the line with this number, and neither a zone nor a remark between the two
@@ -62,17 +62,17 @@ IsBorrowedUnlessContinued lines zone = IsOwnedSlice zone.value → IsContinued l
 -- ---- shape
 
 -- an RTY, and zones with none of the four codes
-pub record IsGroup (group : List Entry) : Type 0 where
-  pub first : Entry
-  pub rest : List Entry
+pub record IsGroup (group : List ZoneData) : Type 0 where
+  pub first : ZoneData
+  pub rest : List ZoneData
   pub joined : group ≡ first ∷ rest
   pub leads : kind_of first.code ≡ Rty
   pub others : AllByRecursion (λ z. is_inner (kind_of z.code) ≡ true) rest
 
 -- BOM, then CSE or nothing, then groups, then EOM
-pub record IsFileOf (zones : List Entry) (charset : Option Entry) (groups : List (List Entry)) : Type 0 where
-  pub head : Entry
-  pub tail : Entry
+pub record IsFileOf (zones : List ZoneData) (charset : Option ZoneData) (groups : List (List ZoneData)) : Type 0 where
+  pub head : ZoneData
+  pub tail : ZoneData
   pub joined : zones ≡ head ∷ (option_to_list charset ++ (flat_map (λ g. g) groups ++ tail ∷ []))
   pub head_is : kind_of head.code ≡ Bom
   pub charset_is : IfSome charset (λ z. kind_of z.code ≡ Cse)
@@ -80,27 +80,27 @@ pub record IsFileOf (zones : List Entry) (charset : Option Entry) (groups : List
   pub tail_is : kind_of tail.code ≡ Eom
 
 -- the zones have the shape of a file
-abbrev pub HasShape : List Entry → Type 0
-HasShape zones = (charset : Option Entry) × (groups : List (List Entry)) × IsFileOf zones charset groups
+abbrev pub HasShape : List ZoneData → Type 0
+HasShape zones = (charset : Option ZoneData) × (groups : List (List ZoneData)) × IsFileOf zones charset groups
 
 -- a zone that begins a record
-abbrev pub begins_group : Entry → Bool
+abbrev pub begins_group : ZoneData → Bool
 begins_group z = has_code (codes "RTY") z
 
 -- a zone that the record before it ends at
-abbrev pub ends_group : Entry → Bool
+abbrev pub ends_group : ZoneData → Bool
 ends_group z = has_code (codes "RTY") z || has_code (codes "EOM") z
 
 -- the zones before the next record or the end
-abbrev pub before_end : List Entry → List Entry
+abbrev pub before_end : List ZoneData → List ZoneData
 before_end [] = []
 before_end (z ∷ zs) = if ends_group z then [] else z ∷ before_end zs
 
 -- the zones of each record
-abbrev pub groups_of : List Entry → List (List Entry)
+abbrev pub groups_of : List ZoneData → List (List ZoneData)
 groups_of [] = []
 groups_of (z ∷ zs) = if begins_group z then (z ∷ before_end zs) ∷ groups_of zs else groups_of zs
 
 -- the zone of the character set, if there is one
-abbrev pub charset_of : List Entry → Option Entry
+abbrev pub charset_of : List ZoneData → Option ZoneData
 charset_of zones = first (filter (has_code (codes "CSE")) zones)

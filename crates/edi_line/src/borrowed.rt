@@ -84,7 +84,7 @@ pub struct ListOfBorrowed<'a, T> {
 
 impl<'a, T> Model for ListOfBorrowed<'a, T> {
     ghost use Rattle.std.specs.Prelude.{◌≡◌, List, map, option_map};
-    ghost use Rattle.edi_line.specs.Entry.{first as first_in};
+    ghost use Rattle.edi_line.specs.ZoneData.{first as first_in};
 
     ghost Value = { List T };
 

@@ -2,7 +2,7 @@
 
 ghost use Rattle.std.specs.Prelude.{◌≡◌, ℕ, List, Option, Some, None, ◌+◌, ◌-◌, ◌^◌, ◌<◌, ◌≤◌, ◌++◌, [], length, option_map, IfOk, IfErr, OnOk, IsErr};
 ghost use Rattle.edi_line.specs.Bytes.{most_records};
-ghost use Rattle.edi_line.specs.Entry.{entries};
+ghost use Rattle.edi_line.specs.ZoneData.{entries};
 ghost use Rattle.edi_line.specs.Feeding.{Refused, FeedState, HoldsFault, StandsFor, fault_seen, joined};
 ghost use Rattle.edi_line.specs.inner.Feeding.{refusal_seen, TakesAll, TakesFront, RefusesOne, RefusesIn};
 ghost use Rattle.edi_line.specs.inner.Held.{Takes, Refuses, Stands, zoned};

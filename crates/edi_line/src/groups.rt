@@ -2,7 +2,7 @@
 
 ghost use Rattle.std.specs.Prelude.{◌≡◌, ◌≤◌, ◌+◌, ◌^◌, ◌<◌, ◌++◌, ◌∷◌, [], false, ℕ, List, OnOk, IfOk, IfErr, drop, length};
 ghost use Rattle.std.specs.List.{list_any};
-ghost use Rattle.edi_line.specs.Entry.{Entry, entry, entries};
+ghost use Rattle.edi_line.specs.ZoneData.{ZoneData, entry, entries};
 ghost use Rattle.edi_line.specs.FileBytes.{file_bytes};
 ghost use Rattle.edi_line.specs.Groups.{IsHandedOut, IsOneRecord};
 ghost use Rattle.edi_line.specs.LineRules.{BreaksIn, BreaksLineRule};
@@ -25,12 +25,12 @@ use std::alloc::{AllocError, Global};
 /// What takes the zones of a file's records, one record after the other.
 pub trait GroupOut {
     /// Whether it is as the zones of these records, all that it has taken, make it.
-    ghost Holds: { Self → List (List Entry) → Type 0 };
+    ghost Holds: { Self → List (List ZoneData) → Type 0 };
 
     /// Takes the zones of the next record, of which the first is its RTY.
     fn take(&mut self, alloc: Global, group: &[Zone<'_>]) -> Result<(), AllocError>
         requires { IsOneRecord (entries group.now) }
-        ensures { OnOk result ((groups : List (List Entry)) → Holds self.old groups
+        ensures { OnOk result ((groups : List (List ZoneData)) → Holds self.old groups
             → Holds self.new (groups ++ entries group.now ∷ [])) };
 }
 
@@ -95,12 +95,12 @@ fn read_piece<O: GroupOut>(
     piece: &[u8],
     out: &mut O,
 ) -> Result<Reader<'static>, LineFault>
-    requires { (lines : List Reading) × (left : List Reading) × (given : List Entry)
+    requires { (lines : List Reading) × (left : List Reading) × (given : List ZoneData)
         × IsAtLines lines (readings_of piece.now ++ left) given reader charset.old × (length lines + 1 < 2 ^ 64) }
-    ensures ok { IfOk result (λ reader_now. (lines left : List Reading) (given : List Entry)
+    ensures ok { IfOk result (λ reader_now. (lines left : List Reading) (given : List ZoneData)
         → IsAtLines lines (readings_of piece.now ++ left) given reader.entry charset.old
         → WentOn lines left given reader_now charset.new (O.Holds out.old) (O.Holds out.new)) }
-    ensures broken { IfErr result (IfBroken (λ rule at. (lines left : List Reading) (given : List Entry)
+    ensures broken { IfErr result (IfBroken (λ rule at. (lines left : List Reading) (given : List ZoneData)
         → IsAtLines lines (readings_of piece.now ++ left) given reader.entry charset.old
         → IsLeastBroken (BreaksIn lines) rule at)) }
 {
@@ -116,15 +116,15 @@ fn read_last<O: GroupOut>(
     bytes: &[u8],
     out: &mut O,
 ) -> Result<Option<Text>, LineFault>
-    requires { (lines : List Reading) × (given : List Entry)
+    requires { (lines : List Reading) × (given : List ZoneData)
         × IsAtLines lines (readings_of bytes.now) given reader charset × (length lines + 1 < 2 ^ 64) }
-    ensures groups { IfOk result (λ charset_now. (file : List ℕ) (given : List Entry)
+    ensures groups { IfOk result (λ charset_now. (file : List ℕ) (given : List ZoneData)
         → IsAtLines (readings_of file) (readings_of bytes.now) given reader.entry charset
         → IsHandedOut file charset_now (λ groups. O.Holds out.old (groups ++ groups_of given)) (O.Holds out.new)) }
-    ensures sound { OnOk result ((file : List ℕ) (given : List Entry)
+    ensures sound { OnOk result ((file : List ℕ) (given : List ZoneData)
         → IsAtLines (readings_of file) (readings_of bytes.now) given reader.entry charset
         → IsUnbroken (BreaksLineRule file)) }
-    ensures least { IfErr result (IfBroken (λ rule at. (file : List ℕ) (given : List Entry)
+    ensures least { IfErr result (IfBroken (λ rule at. (file : List ℕ) (given : List ZoneData)
         → IsAtLines (readings_of file) (readings_of bytes.now) given reader.entry charset
         → IsLeastBroken (BreaksLineRule file) rule at)) }
 {
@@ -143,12 +143,12 @@ fn read_lines<'a, O: GroupOut>(
     bytes: &'a [u8],
     out: &mut O,
 ) -> Result<Reader<'a>, LineFault>
-    requires { (lines : List Reading) × (left : List Reading) × (given : List Entry)
+    requires { (lines : List Reading) × (left : List Reading) × (given : List ZoneData)
         × IsAtLines lines (readings_of bytes.now ++ left) given reader charset.old × (length lines + 1 < 2 ^ 64) }
-    ensures ok { IfOk result (λ reader_now. (lines left : List Reading) (given : List Entry)
+    ensures ok { IfOk result (λ reader_now. (lines left : List Reading) (given : List ZoneData)
         → IsAtLines lines (readings_of bytes.now ++ left) given reader.entry charset.old
         → WentOn lines left given reader_now charset.new (O.Holds out.old) (O.Holds out.new)) }
-    ensures broken { IfErr result (IfBroken (λ rule at. (lines left : List Reading) (given : List Entry)
+    ensures broken { IfErr result (IfBroken (λ rule at. (lines left : List Reading) (given : List ZoneData)
         → IsAtLines lines (readings_of bytes.now ++ left) given reader.entry charset.old
         → IsLeastBroken (BreaksIn lines) rule at)) }
 {
@@ -175,7 +175,7 @@ fn hand_on<O: GroupOut>(
 ) -> Result<(), AllocError>
     requires { list_any ends_group (drop 1 (entries zones.now)) ≡ false }
     ensures charset { OnOk result (charset.new ≡ charset_behind charset.old (entries zones.now)) }
-    ensures groups { OnOk result ((groups : List (List Entry)) → O.Holds out.old groups
+    ensures groups { OnOk result ((groups : List (List ZoneData)) → O.Holds out.old groups
         → O.Holds out.new (groups ++ groups_of (entries zones.now))) }
 {
     match zones {

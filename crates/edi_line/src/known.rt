@@ -5,7 +5,7 @@ ghost use Rattle.edi_line.specs.Number.{IsNumberText, plain_text, signed_text};
 ghost use Rattle.edi_line.specs.Lines.{IsLinesOf, content_of};
 ghost use Rattle.edi_line.specs.LineRules.{BreaksLineRule, IsZonesOf};
 ghost use Rattle.edi_line.specs.Refusal.{IsLeastBroken, IsUnbroken};
-ghost use Rattle.edi_line.specs.Entry.{Entry};
+ghost use Rattle.edi_line.specs.ZoneData.{ZoneData};
 ghost use Rattle.edi_line.specs.Zones.{HasShape};
 ghost use Rattle.edi_line.specs.Printing.{zone_headed, at_line};
 
@@ -42,7 +42,7 @@ pub fn known_lines_are_read()
         ∷ at_line 6 (zone_headed (codes "EOMT ") []) ∷ []) }
     ensures remark { IsZonesOf (codes "BOMT 01:X\nREMT 02:hi\nNEXT 01:Y\nEOMT 00:\n")
         (at_line 1 (zone_headed (codes "BOMT ") (codes "X")) ∷ at_line 4 (zone_headed (codes "EOMT ") []) ∷ []) }
-    ensures faulty { (zones : List Entry) → ¬ (IsZonesOf (codes "x\n") zones) }
+    ensures faulty { (zones : List ZoneData) → ¬ (IsZonesOf (codes "x\n") zones) }
     ensures hand_made { HasShape (zone_headed (codes "BOMT ") [] ∷ zone_headed (codes "RTYSA") (codes "PNO")
         ∷ zone_headed (codes "NEXT ") (codes "q") ∷ zone_headed (codes "EOMT ") [] ∷ []) }
     ensures sound { IsUnbroken (BreaksLineRule (codes "BOMT 01:X\nCSET 03:IRV\nRTYSA03:PNO\nRIDSA01:a\nEOMT 00:\n")) }

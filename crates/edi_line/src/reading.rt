@@ -2,7 +2,7 @@
 
 ghost use Rattle.std.specs.Prelude.{Option, Some, None, true, false, ◌≡◌, ℕ, List, ◌+◌, ◌^◌, ◌<◌, ◌≤◌, [], ◌∷◌, ◌++◌, length, map, OnOk, IfOk, IfErr, IfSome, option_map, option_to_list};
 ghost use Rattle.edi_line.specs.Bytes.{most_records};
-ghost use Rattle.edi_line.specs.Entry.{Entry, entry, entries};
+ghost use Rattle.edi_line.specs.ZoneData.{ZoneData, entry, entries};
 ghost use Rattle.edi_line.specs.Zones.{HasShape, IsFileOf, IsBorrowedUnlessContinued, IsZonesIn, groups_of, charset_of};
 ghost use Rattle.edi_line.specs.inner.Groups.{has_group};
 ghost use Rattle.edi_line.specs.inner.Zones.{part_by};
@@ -264,17 +264,17 @@ pub fn zones<'a>(alloc: Global, bytes: &'a [u8]) -> Result<Vec<Zone<'a>>, LineFa
 
 /// Printed zones are read as they were, each at its line, and break no rule where they have the shape of a file.
 pub fn printed_zones_are_read_again()
-    ensures zones { (zs : List Entry) (readings : List Reading) → AllByRecursion IsPrintable zs
+    ensures zones { (zs : List ZoneData) (readings : List Reading) → AllByRecursion IsPrintable zs
         → AreReadings (printed zs) readings → IsZonesIn readings (line_numbered 1 zs) }
-    ensures unbroken { (zs : List Entry) (charset : Option Entry) (groups : List (List Entry))
+    ensures unbroken { (zs : List ZoneData) (charset : Option ZoneData) (groups : List (List ZoneData))
         → IsFileOf zs charset groups
         → AllByRecursion IsPrintable zs → length groups ≤ most_records → IsUnbroken (BreaksLineRule (printed zs)) }
 {}
 
 /// A file has one list of zones at most, and these one character set and one list of groups.
 pub fn zones_are_unique()
-    ensures zones { (bytes : List ℕ) (zones others : List Entry) → IsZonesOf bytes zones → IsZonesOf bytes others
+    ensures zones { (bytes : List ℕ) (zones others : List ZoneData) → IsZonesOf bytes zones → IsZonesOf bytes others
         → zones ≡ others }
-    ensures groups { (zones : List Entry) (charset : Option Entry) (groups : List (List Entry))
+    ensures groups { (zones : List ZoneData) (charset : Option ZoneData) (groups : List (List ZoneData))
         → IsFileOf zones charset groups → (charset_of zones ≡ charset) × (groups_of zones ≡ groups) }
 {}

@@ -1,7 +1,7 @@
 //! A zone of a file.
 
 ghost use Rattle.std.specs.Prelude.{◌≡◌, ◌++◌, OnOk, IfOk};
-ghost use Rattle.edi_line.specs.Entry.{entry};
+ghost use Rattle.edi_line.specs.ZoneData.{entry};
 ghost use Rattle.edi_line.specs.inner.Zones.{with_more};
 
 use std::alloc::{AllocError, Global};

@@ -1,7 +1,7 @@
 //! The zones that have begun.
 
 ghost use Rattle.std.specs.Prelude.{◌≡◌, false, [], ◌∷◌, ◌++◌, None, Some, OnOk, IfOk, option_map, option_to_list};
-ghost use Rattle.edi_line.specs.Entry.{entry};
+ghost use Rattle.edi_line.specs.ZoneData.{entry};
 ghost use Rattle.edi_line.specs.Zones.{ends_group as zone_ends_group};
 ghost use Rattle.edi_line.specs.inner.Borrowed.{IsClosed, IsLengthened};
 ghost use Rattle.edi_line.specs.inner.Groups.{has_group};

@@ -4,7 +4,7 @@ use Rattle.std.specs.List.{AllByRecursion}
 use Rattle.std.specs.Option.{is_some}
 use Rattle.edi_record.specs.declared.record.Kind.TheVariants.{Par}
 use Rattle.edi_schema.specs.Classes.{Classes}
-use Rattle.edi_plan.specs.Plans.{Drawing, IsPlace, record_at}
+use Rattle.edi_plan.specs.Plans.{PlanData, IsPlace, record_at}
 use Rattle.edi_plan.specs.declared.record.PlanEnd.{PlanEnd}
 use Rattle.edi_rank.specs.Labelling.{turned_at}
 use Rattle.edi_rank.specs.Same.{CarriesRecord}
@@ -59,7 +59,7 @@ holds_known m i j goes arc ends (Ok answer) contents = (λ t. holds (contents.0 
 
 -- all of them
 
-module _ (s : Classes) (p q : Drawing) (m : Matching) (targets : List ℕ) (same : targets ≡ targets_of m.to) where
+module _ (s : Classes) (p q : PlanData) (m : Matching) (targets : List ℕ) (same : targets ≡ targets_of m.to) where
   abbrev proposal : Proposal
   proposal = record { classes = s; plan = p; other = q; to = m.to; targets = targets; turned = m.turned }
 
@@ -88,13 +88,13 @@ module _ (s : Classes) (p q : Drawing) (m : Matching) (targets : List ℕ) (same
   each_holds holds i h = record { arc = holds.arcs i h; ends = holds.ends i; carries = λ j e. carried_back i j (holds.each i j e) }
 
 -- the same of plans and lists that are those of the matching
-pub all_reported : {E : Type 0} (s : Classes) (p q p' q' : Drawing) (m : Matching) (to : List (Option ℕ)) (turned : List Bool) (targets : List ℕ) → p' ≡ p → q' ≡ q → to ≡ m.to → turned ≡ m.turned → targets ≡ targets_of to
+pub all_reported : {E : Type 0} (s : Classes) (p q p' q' : PlanData) (m : Matching) (to : List (Option ℕ)) (turned : List Bool) (targets : List ℕ) → p' ≡ p → q' ≡ q → to ≡ m.to → turned ≡ m.turned → targets ≡ targets_of to
     → length to ≡ length p'.list → length turned ≡ length p'.list → AreApart to (length q'.list) → (r : Result Bool E)
     → IfOk r (λ answer. IsTrue answer ↔ ((i : ℕ) → IsPlace p' i → HoldsAt (record { classes = s; plan = p'; other = q'; to = to; targets = targets; turned = turned }) i))
     → IfOk r (λ answer. IsTrue answer ↔ MatchingHolds s p q m)
 all_reported s p q p' q' m to turned targets is is' same same' aim entered directed apart (Err e) contents = tt
 all_reported s p q p' q' m to turned targets is is' same same' aim entered directed apart (Ok answer) contents =
-    subst (λ (x : Drawing). IsTrue answer ↔ MatchingHolds s x q m) is
-    (subst (λ (y : Drawing). IsTrue answer ↔ MatchingHolds s p' y m) is'
+    subst (λ (x : PlanData). IsTrue answer ↔ MatchingHolds s x q m) is
+    (subst (λ (y : PlanData). IsTrue answer ↔ MatchingHolds s p' y m) is'
     (subst (λ (n : Matching). IsTrue answer ↔ MatchingHolds s p' q' n) (λ k. record { to = same k; turned = same' k })
     (λ t. all_hold s p' q' (record { to = to; turned = turned }) targets aim entered directed apart (contents.0 t), λ holds. contents.1 (each_holds s p' q' (record { to = to; turned = turned }) targets aim holds))))

@@ -4,7 +4,7 @@ use Rattle.std.proofs.lemmas.List.Sorted.{sum_by-IsPermutation, IsPermutation-re
 use Rattle.edi_record.specs.declared.record.Point.{Point}
 use Rattle.edi_schema.specs.Classes.{Classes, IsPaired, IsSchema, role_of, partner_of}
 use Rattle.edi_schema.specs.Roles.{is_plain}
-use Rattle.edi_plan.specs.Plans.{Drawing, record_at, blank}
+use Rattle.edi_plan.specs.Plans.{PlanData, record_at, blank}
 use Rattle.edi_plan.specs.declared.record.PlanRecord.{PlanRecord}
 use Rattle.edi_topo.specs.Ranking.{sum_below}
 use Rattle.edi_topo.proofs.Sums.{sum_by-below}
@@ -19,7 +19,7 @@ use Rattle.edi_matching.specs.inner.Checksums.{HaveOneChecksum, attribute_checks
 use Rattle.edi_matching.proofs.SamePlans.{accepted_under}
 
 -- the sum over the places is that over the records
-pub all_summed : (f : PlanRecord → ℕ) (p : Drawing) (n sum : ℕ) → n ≡ length p.list → sum ≡ sum_below n (λ k. f (record_at p k)) % 2 ^ 64 → sum ≡ sum_of f p.list
+pub all_summed : (f : PlanRecord → ℕ) (p : PlanData) (n sum : ℕ) → n ≡ length p.list → sum ≡ sum_below n (λ k. f (record_at p k)) % 2 ^ 64 → sum ≡ sum_of f p.list
 all_summed f p n sum all is = is ∙ ap (λ k. k % 2 ^ 64) (ap (λ k. sum_below k (λ i. f (record_at p i))) all ∙ sym (sum_by-below f p.list blank))
 
 -- a record that was carried has one checksum with the record that it became
@@ -67,7 +67,7 @@ module _ (s : Classes) (paired : IsPaired s) (to : ℕ → ℕ) (turned : ℕ �
 
 -- plans that are the same
 
-pub same_checksum : (s : Classes) (p q : Drawing) → IsPlanUnder s p → IsPlanUnder s q → Same s p q → plan_checksum q ≡ plan_checksum p
+pub same_checksum : (s : Classes) (p q : PlanData) → IsPlanUnder s p → IsPlanUnder s q → Same s p q → plan_checksum q ≡ plan_checksum p
 same_checksum s p q under under' same = ap (λ n. n % 2 ^ 64) (sym whole)
   where
     whole : sum_by record_checksum p.list ≡ sum_by record_checksum q.list
@@ -77,6 +77,6 @@ same_checksum s p q under under' same = ap (λ n. n % 2 ^ 64) (sym whole)
         (λ k h. sym (record_kept s under.paired same.0 same.1 k (record_at p k) (record_at q (same.0 k)) (role_at s p under k h) (role_at s q under' (same.0 k) (same.2.places.within k h)) (same.2.each k h)))
         ∙ sym (sum_by-below record_checksum q.list blank))
 
-pub other_checksum : (s : Classes) (p q : Drawing) → IsSchema s → IsAcceptedPlan s p → IsAcceptedPlan s q → (answer : Bool) → (IsTrue answer ↔ HaveOneChecksum p q) → answer ≡ false → ¬ (Same s p q)
+pub other_checksum : (s : Classes) (p q : PlanData) → IsSchema s → IsAcceptedPlan s p → IsAcceptedPlan s q → (answer : Bool) → (IsTrue answer ↔ HaveOneChecksum p q) → answer ≡ false → ¬ (Same s p q)
 other_checksum s p q keeps accepted accepted' answer contents e same =
     true≢false (sym (contents.1 (record { cse = same.2.cse; checksum = same_checksum s p q (accepted_under s p keeps accepted) (accepted_under s q keeps accepted') same })) ∙ e)

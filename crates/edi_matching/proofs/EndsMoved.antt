@@ -5,14 +5,14 @@ use Rattle.std.specs.Option.{option_and_then}
 use Rattle.std.proofs.lemmas.Bool.{le-ltb, lt-ltb}
 use Rattle.std.proofs.lemmas.List.{append_assoc, at_drop_all, at_drop_more, get_or_past}
 use Rattle.edi_schema.specs.Sorted.{sort_by}
-use Rattle.edi_plan.specs.Plans.{Drawing, IsPlace, blank, is_object, record_at}
+use Rattle.edi_plan.specs.Plans.{PlanData, IsPlace, blank, is_object, record_at}
 use Rattle.edi_plan.specs.declared.record.PlanEnd.{PlanEnd}
 use Rattle.edi_plan.specs.declared.record.PlanRecord.{PlanRecord}
 use Rattle.edi_rank.specs.Keys.{end_cmp, numbered}
 use Rattle.edi_rank.specs.declared.keys.NumberedEnd.{NumberedEnd}
 use Rattle.edi_matching.specs.inner.Entries.{all_there, end_there, ends_there, object_among}
 
-module _ (p : Drawing) (to : List (Option ℕ)) where
+module _ (p : PlanData) (to : List (Option ℕ)) where
   -- one end
 
   pub nowhere : (e : PlanEnd) → get_or to e.target None ≡ None → end_there p to e ≡ None
@@ -67,7 +67,7 @@ module _ (p : Drawing) (to : List (Option ℕ)) where
 
 -- an object among ends
 
-module _ (p : Drawing) where
+module _ (p : PlanData) where
   pub among_here : (ends : List PlanEnd) (i : ℕ) (e : PlanEnd) → i < length ends → e ≡ get_or ends i e → is_object (record_at p e.target).kind ≡ true → object_among p (drop i ends) ≡ Some e.target
   among_here ends i e within is object =
       at_drop_more (object_among p) ends i e within

@@ -10,7 +10,7 @@ use Rattle.edi_schema.specs.declared.role.Role.{Role}
 use Rattle.edi_schema.specs.declared.role.Role.TheVariants.{Left, Right}
 use Rattle.edi_plan.specs.Joined.{IsJoined, beside}
 use Rattle.edi_plan.specs.Places.{places_of}
-use Rattle.edi_plan.specs.Plans.{Drawing, IsPlace, record_at}
+use Rattle.edi_plan.specs.Plans.{PlanData, IsPlace, record_at}
 use Rattle.edi_plan.specs.Sides.{Side}
 use Rattle.edi_plan.specs.Whole.{IsWholePlan}
 use Rattle.edi_plan.specs.declared.record.PlanEnd.{PlanEnd}
@@ -28,7 +28,7 @@ use Rattle.edi_matching.specs.inner.Proposals.{Proposal}
 use Rattle.edi_matching.proofs.RecordsAdded.{AreAdded, carried_alike, last_or, matched_after, none_added, one_added, unmarked, went_here}
 
 -- a face has no ends, so it is carried by all renamings or by none
-pub no_ends : (p : Drawing) → IsWholePlan p → (f : ℕ) → IsPlace p f → (record_at p f).kind ≡ Pfe → (record_at p f).ends ≡ []
+pub no_ends : (p : PlanData) → IsWholePlan p → (f : ℕ) → IsPlace p f → (record_at p f).kind ≡ Pfe → (record_at p f).ends ≡ []
 no_ends p whole f here is = go (record_at p f).ends (subst (λ (k : Kind). may_have_ends k (length (record_at p f).ends) ≡ true) is (whole.ends f here))
   where
     go : (ends : List PlanEnd) → may_have_ends Pfe (length ends) ≡ true → ends ≡ []
@@ -48,7 +48,7 @@ pub link_not_arc : Lnk ≢ Par
 link_not_arc e = cc
 
 -- where records of another type alone are added, an arc goes where it went
-goes_before : (kind : Kind) → kind ≢ Par → (p : Drawing) (m n : Matching) → AddsOnly kind p m n → (arc j : ℕ) → (record_at p arc).kind ≡ Par → GoesTo n.to arc j → GoesTo m.to arc j
+goes_before : (kind : Kind) → kind ≢ Par → (p : PlanData) (m n : Matching) → AddsOnly kind p m n → (arc j : ℕ) → (record_at p arc).kind ≡ Par → GoesTo n.to arc j → GoesTo m.to arc j
 goes_before kind other p m n adds arc j is goes = go (adds.only arc (j, goes))
   where
     go : IsMatched m.to arc ⊎ ((record_at p arc).kind ≡ kind) → GoesTo m.to arc j
@@ -56,7 +56,7 @@ goes_before kind other p m n adds arc j is goes = go (adds.only arc (j, goes))
     go (inr e) = absurd (other (sym e ∙ is))
 
 -- and no face is left out with another that was not
-pub faces_stay : (kind : Kind) → kind ≢ Par → (s : Classes) (p q : Drawing) → IsWholePlan p → IsJoined p → (role : Role) → beside role ≡ Pfe → (m n : Matching) → AddsOnly kind p m n
+pub faces_stay : (kind : Kind) → kind ≢ Par → (s : Classes) (p q : PlanData) → IsWholePlan p → IsJoined p → (role : Role) → beside role ≡ Pfe → (m n : Matching) → AddsOnly kind p m n
     → MatchesBeside role s p q m → MatchesBeside role s p q n
 faces_stay kind other s p q whole joined role side m n adds matched arc f g b missed =
     let none = no_ends p whole f missed.here (kind_beside p joined arc f role b.here ∙ side) in
@@ -172,12 +172,12 @@ forced_none m marks to f g none k l same left free =
 
 -- the same of what a function answers
 
-pub both_sides : {E : Type 0} (s : Classes) (p q : Drawing) → IsWholePlan p → IsJoined p → (m : Matching) → MatchesBeside Left s p q m → (r : Result Matching E) → IfOk r (AddsOnly Pfe p m)
+pub both_sides : {E : Type 0} (s : Classes) (p q : PlanData) → IsWholePlan p → IsJoined p → (m : Matching) → MatchesBeside Left s p q m → (r : Result Matching E) → IfOk r (AddsOnly Pfe p m)
     → IfOk r (MatchesBeside Right s p q) → IfOk r (MatchesFaces s p q)
 both_sides s p q whole joined m matched (Err e) adds other = tt
 both_sides s p q whole joined m matched (Ok n) adds other = record { on_left = faces_stay Pfe face_not_arc s p q whole joined Left refl m n adds matched; on_right = other }
 
-pub faces_kept : {E : Type 0} (s : Classes) (p q : Drawing) → IsWholePlan p → IsJoined p → (m : Matching) → MatchesFaces s p q m → (r : Result Matching E) → IfOk r (AddsOnly Lnk p m)
+pub faces_kept : {E : Type 0} (s : Classes) (p q : PlanData) → IsWholePlan p → IsJoined p → (m : Matching) → MatchesFaces s p q m → (r : Result Matching E) → IfOk r (AddsOnly Lnk p m)
     → IfOk r (MatchesFaces s p q)
 faces_kept s p q whole joined m matched (Err e) adds = tt
 faces_kept s p q whole joined m matched (Ok n) adds = record {
@@ -185,6 +185,6 @@ faces_kept s p q whole joined m matched (Ok n) adds = record {
   on_right = faces_stay Lnk link_not_arc s p q whole joined Right refl m n adds matched.on_right;
 }
 
-pub matched_kept : {E : Type 0} (kind : Kind) (p : Drawing) (m : Matching) (r : Result Matching E) → IfOk r (AddsOnly kind p m) → IfOk r (λ n. (i : ℕ) → IsMatched m.to i → IsMatched n.to i)
+pub matched_kept : {E : Type 0} (kind : Kind) (p : PlanData) (m : Matching) (r : Result Matching E) → IfOk r (AddsOnly kind p m) → IfOk r (λ n. (i : ℕ) → IsMatched m.to i → IsMatched n.to i)
 matched_kept kind p m (Err e) adds = tt
 matched_kept kind p m (Ok n) adds = λ i w. (w.0, adds.keeps i w.0 w.1)

@@ -16,7 +16,7 @@ use Rattle.edi_record.specs.declared.record.Point.{Point}
 use Rattle.edi_schema.proofs.SortedLists.{sort_by-same, counts_from_permutation}
 use Rattle.edi_plan.specs.Orders.{attribute_cmp}
 use Rattle.edi_plan.specs.Places.{places_of}
-use Rattle.edi_plan.specs.Plans.{Drawing, IsPlace, record_at}
+use Rattle.edi_plan.specs.Plans.{PlanData, IsPlace, record_at}
 use Rattle.edi_plan.specs.Whole.{IsWholePlan}
 use Rattle.edi_plan.specs.declared.record.PlanRecord.{PlanRecord}
 use Rattle.edi_plan.proofs.Orders.{attribute_total, attribute_exact, points_total, point_exact, exact_lists}
@@ -38,7 +38,7 @@ use Rattle.edi_matching.specs.inner.Partners.{TwoPlans, IsOnlyAt, IsSameIfAny}
 
 -- members that are found by their keys
 
-module _ {K : Type 0} (cmp : K → K → Ordering) (total : IsTotalOrder cmp) (exact : CmpEqualImpliesEq cmp) (q : Drawing) (kind : Kind) (contents : ℕ → K) (keys : ℕ → K)
+module _ {K : Type 0} (cmp : K → K → Ordering) (total : IsTotalOrder cmp) (exact : CmpEqualImpliesEq cmp) (q : PlanData) (kind : Kind) (contents : ℕ → K) (keys : ℕ → K)
     (is : (m : ℕ) → m < length (places_of kind q) → keys m ≡ contents (get_or (places_of kind q) m 0))
     (pairs : List (K × ℕ)) (members : IsPermutation (keyed keys (length (places_of kind q))) pairs) (key : K) where
   abbrev count : ℕ
@@ -83,7 +83,7 @@ arc_keys_same a b turned same = sym (one_direction a.points b.points (either tur
 
 -- so a partner is where its key is found
 
-module _ (p q : Drawing) (whole : IsWholePlan q) (sound : IsUnbroken (BreaksTopologyRule q)) (i : ℕ) where
+module _ (p q : PlanData) (whole : IsWholePlan q) (sound : IsUnbroken (BreaksTopologyRule q)) (i : ℕ) where
   abbrev two : TwoPlans
   two = record { plan = p; other = q }
 
@@ -167,10 +167,10 @@ pub nodes_searched : (pairs : List (NodeKey × ℕ)) (key : NodeKey) (found : Op
 nodes_searched pairs key found h = subst (λ (cmp : NodeKey → NodeKey → Ordering). IsSearched cmp pairs key found) node_orders h
 
 -- the members of a layer, with their keys
-abbrev pub AreNodesOf : Drawing → List (NodeKey × ℕ) → Type 0
+abbrev pub AreNodesOf : PlanData → List (NodeKey × ℕ) → Type 0
 AreNodesOf q pairs = IsPermutation (keyed (λ m. get_or (node_keys q) m no_node) (length (places_of Pno q))) pairs
 
-abbrev pub AreArcsOf : Drawing → List (List Point × ℕ) → Type 0
+abbrev pub AreArcsOf : PlanData → List (List Point × ℕ) → Type 0
 AreArcsOf q pairs = IsPermutation (keyed (λ m. get_or (forward_keys q) m []) (length (places_of Par q))) pairs
 
 -- a search found no such element
@@ -182,7 +182,7 @@ missing ord xs i both k d h tie = go (cases_lt k i)
     go (inl less) = let e : Less ≡ Equal = sym (both.0 k d (omega arith) less) ∙ tie in cc
     go (inr more) = let e : Greater ≡ Equal = sym (both.1 k d more h) ∙ tie in cc
 
-module _ (t : TwoPlans) (p q : Drawing) (is : record { plan = p; other = q } ≡ t) (whole : IsWholePlan q) (sound : IsUnbroken (BreaksTopologyRule q)) (i : ℕ) where
+module _ (t : TwoPlans) (p q : PlanData) (is : record { plan = p; other = q } ≡ t) (whole : IsWholePlan q) (sound : IsUnbroken (BreaksTopologyRule q)) (i : ℕ) where
   kind_there : (kind : Kind) → (record_at t.plan i).kind ≡ kind → (record_at p i).kind ≡ kind
   kind_there kind e = subst (λ (x : TwoPlans). (record_at x.plan i).kind ≡ kind) (sym is) e
 
@@ -223,7 +223,7 @@ module _ (t : TwoPlans) (p q : Drawing) (is : record { plan = p; other = q } ≡
     arc_some m places e found = subst (λ (ps : List ℕ). IsOnlyAt t i (Some (get_or ps m 0))) (sym e) (subst (λ (x : TwoPlans). IsOnlyAt x i (Some (get_or (places_of Par q) m 0))) is (arc_there m found).1)
 
 -- where the only place has another record, there is no partner
-pub not_there : (t : TwoPlans) (p q : Drawing) → record { plan = p; other = q } ≡ t → (i k : ℕ) → ((j : ℕ) (turned : Bool) → ArePartners t.plan t.other i j turned → j ≡ k)
+pub not_there : (t : TwoPlans) (p q : PlanData) → record { plan = p; other = q } ≡ t → (i k : ℕ) → ((j : ℕ) (turned : Bool) → ArePartners t.plan t.other i j turned → j ≡ k)
     → (found : Option Bool) → found ≡ None → IsSameIfAny (record_at p i) (record_at q k) found → (j : ℕ) (turned : Bool) → ¬ (ArePartners t.plan t.other i j turned)
 not_there t p q is i k only (Some x) e contents j turned are = cc
 not_there t p q is i k only None e contents j turned are =

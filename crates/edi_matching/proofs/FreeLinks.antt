@@ -6,7 +6,7 @@ use Rattle.std.proofs.lemmas.List.{get_or_append_left, length-append}
 use Rattle.std.proofs.Math.Seq.{get_or-append_seam}
 use Rattle.edi_record.specs.declared.record.Kind.TheVariants.{Lnk}
 use Rattle.edi_plan.specs.Places.{places_of}
-use Rattle.edi_plan.specs.Plans.{Drawing, record_at}
+use Rattle.edi_plan.specs.Plans.{PlanData, record_at}
 use Rattle.edi_plan.proofs.PlaceLemmas.{has_place}
 use Rattle.edi_rank.specs.Keys.{link_key}
 use Rattle.edi_rank.specs.declared.keys.LinkKey.{LinkKey}
@@ -60,15 +60,15 @@ all_reached to n marks done are whole = record {
 }
 
 -- the free links among the first are listed
-abbrev pub ListsSoFar : Drawing → List Bool → List (LinkKey × ℕ) → ℕ → Type 0
+abbrev pub ListsSoFar : PlanData → List Bool → List (LinkKey × ℕ) → ℕ → Type 0
 ListsSoFar q marks pairs done = (n j : ℕ) → n < done → get_or (places_of Lnk q) n 0 ≡ j → get_or marks j true ≡ false → Contains pairs (link_key q (λ k. k) (record_at q j), j)
 
-pub all_listed : (q : Drawing) (marks : List Bool) (pairs : List (LinkKey × ℕ)) (done : ℕ) → ListsSoFar q marks pairs done → length (places_of Lnk q) ≤ done → ListsFree q marks pairs
+pub all_listed : (q : PlanData) (marks : List Bool) (pairs : List (LinkKey × ℕ)) (done : ℕ) → ListsSoFar q marks pairs done → length (places_of Lnk q) ≤ done → ListsFree q marks pairs
 all_listed q marks pairs done lists whole j there link free =
     let place = has_place Lnk q j there link in
     lists place.0 j (let h = place.1 in omega (arith, h, whole)) place.2 free
 
-module _ (q : Drawing) (marks : List Bool) (pairs : List (LinkKey × ℕ)) (done place : ℕ) (lists : ListsSoFar q marks pairs done) (is : place ≡ get_or (places_of Lnk q) done 0) where
+module _ (q : PlanData) (marks : List Bool) (pairs : List (LinkKey × ℕ)) (done place : ℕ) (lists : ListsSoFar q marks pairs done) (is : place ≡ get_or (places_of Lnk q) done 0) where
   abbrev Listed : List (LinkKey × ℕ) → ℕ → Type 0
   Listed all j = Contains all (link_key q (λ k. k) (record_at q j), j)
 

@@ -3,7 +3,7 @@ use Rattle.std.proofs.Common.{◌≡◌, ℕ, ◌<◌, Bool, true, false, List, 
 use Rattle.std.proofs.lemmas.List.{get_or_default, get_or_read}
 use Rattle.edi_schema.specs.Roles.{exchanged}
 use Rattle.edi_schema.specs.declared.role.Role.{Role}
-use Rattle.edi_plan.specs.Plans.{Drawing}
+use Rattle.edi_plan.specs.Plans.{PlanData}
 use Rattle.edi_plan.specs.Sides.{IsSideIfAny, Side}
 use Rattle.edi_rank.specs.Labelling.{turned_at}
 use Rattle.edi_matching.specs.Matchings.{GoesTo}
@@ -18,10 +18,10 @@ module _ (Pair : ℕ → ℕ → Type 0) (start : List (Option ℕ)) (free : Lis
   pub then_free : (i j : ℕ) → Pair i j → PairsIfFree i j to taken more marks → AddsPairs Pair start free more marks
   then_free i j pair pairs = adds_then Pair start free to taken more marks so (adds_if_free Pair i j to taken more marks pair pairs)
 
-  pub then_alike : (p q : Drawing) (i j : ℕ) → (AreAlike p q i j → Pair i j) → PairsIfAlike p q i j to taken more marks → AddsPairs Pair start free more marks
+  pub then_alike : (p q : PlanData) (i j : ℕ) → (AreAlike p q i j → Pair i j) → PairsIfAlike p q i j to taken more marks → AddsPairs Pair start free more marks
   then_alike p q i j pair pairs = adds_then Pair start free to taken more marks so (adds_if_alike Pair p q i j to taken more marks pair pairs)
 
-  pub then_both : (p q : Drawing) (place target : Option ℕ) → ((i j : ℕ) → place ≡ Some i → target ≡ Some j → AreAlike p q i j → Pair i j) → PairsIfBoth p q place target to taken more marks
+  pub then_both : (p q : PlanData) (place target : Option ℕ) → ((i j : ℕ) → place ≡ Some i → target ≡ Some j → AreAlike p q i j → Pair i j) → PairsIfBoth p q place target to taken more marks
       → AddsPairs Pair start free more marks
   then_both p q place target pair pairs = adds_then Pair start free to taken more marks so (adds_if_both Pair p q place target to taken more marks pair pairs)
 
@@ -40,15 +40,15 @@ lone_key eq place entries others x y here there same lone lone_there = record { 
 
 -- the sides of arcs
 
-abbrev pub AreOnSides : Drawing → Drawing → ℕ → ℕ → Bool → ℕ → ℕ → Type 0
+abbrev pub AreOnSides : PlanData → PlanData → ℕ → ℕ → Bool → ℕ → ℕ → Type 0
 AreOnSides p q arc target is_turned i j = (role : Role) × Side p arc role i × Side q target (cond is_turned (exchanged role) role) j × AreAlike p q i j
 
-pub on_sides : (p q : Drawing) (arc target : ℕ) (is_turned : Bool) (role there : Role) (place other : Option ℕ) → there ≡ cond is_turned (exchanged role) role → IsSideIfAny p arc role place
+pub on_sides : (p q : PlanData) (arc target : ℕ) (is_turned : Bool) (role there : Role) (place other : Option ℕ) → there ≡ cond is_turned (exchanged role) role → IsSideIfAny p arc role place
     → IsSideIfAny q target there other → (i j : ℕ) → place ≡ Some i → other ≡ Some j → AreAlike p q i j → AreOnSides p q arc target is_turned i j
 on_sides p q arc target is_turned role there place other is here beyond i j at goes alike =
     (role, subst (λ (o : Option ℕ). IsSideIfAny p arc role o) at here, subst (λ (r : Role). Side q target r j) is (subst (λ (o : Option ℕ). IsSideIfAny q target there o) goes beyond), alike)
 
-module _ (p q : Drawing) (turned : List Bool) where
+module _ (p q : PlanData) (turned : List Bool) where
   abbrev pub matched_so : List (Option ℕ) → Matching
   matched_so to = record { to = to; turned = turned }
 
@@ -87,7 +87,7 @@ lacks_it {K} {X} eq entries at key within none d = go (eq (get_or entries at d).
 
 -- one pair more of two lists, where the second has the key of an entry of the first
 
-module _ {K : Type 0} (eq : K → K → Bool) (p q : Drawing) (objects others : List (K × Member)) where
+module _ {K : Type 0} (eq : K → K → Bool) (p q : PlanData) (objects others : List (K × Member)) where
   abbrev pub Shared : ℕ → ℕ → Type 0
   Shared i j = HaveOneKey eq (λ (m : Member). m.place) objects others i j × AreAlike p q i j
 

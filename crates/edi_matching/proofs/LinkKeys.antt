@@ -9,7 +9,7 @@ use Rattle.edi_schema.specs.Sorted.{sort_by}
 use Rattle.edi_schema.proofs.SortedLists.{counts_from_permutation, sort_by-same}
 use Rattle.edi_plan.specs.Orders.{attribute_cmp}
 use Rattle.edi_plan.proofs.Orders.{attribute_total, attribute_exact}
-use Rattle.edi_plan.specs.Plans.{Drawing, IsPlace, record_at, first_of, rest_of}
+use Rattle.edi_plan.specs.Plans.{PlanData, IsPlace, record_at, first_of, rest_of}
 use Rattle.edi_plan.specs.declared.record.PlanEnd.{PlanEnd}
 use Rattle.edi_plan.specs.declared.record.PlanRecord.{PlanRecord}
 use Rattle.edi_rank.specs.Keys.{end_cmp, ends_key, link_key, link_key_cmp, numbered}
@@ -28,7 +28,7 @@ use Rattle.edi_matching.specs.inner.Links.{IsFree, IsMoreReached, ListsFree, mat
 use Rattle.edi_matching.specs.inner.Proposals.{Proposal}
 use Rattle.edi_matching.proofs.Totals.{target_is}
 
-module _ (p q : Drawing) (t : ℕ → ℕ) where
+module _ (p q : PlanData) (t : ℕ → ℕ) where
   abbrev pub SameKind : PlanEnd → Type 0
   SameKind x = (record_at q (t x.target)).kind ≡ (record_at p x.target).kind
 
@@ -90,7 +90,7 @@ none_with pairs key (Some x) none found = absurd (true≢false none)
 none_with pairs key None none found = λ k d h e. found k d h (link_order (get_or pairs k d).0 key ∙ e)
 
 -- a link of a plan has its own key
-pub key_itself : (q : Drawing) (itself : List ℕ) (r : PlanRecord) → ((k : ℕ) → k < length q.list → slice_index itself k ≡ k) → AllByRecursion (λ e. IsPlace q e.target) r.ends
+pub key_itself : (q : PlanData) (itself : List ℕ) (r : PlanRecord) → ((k : ℕ) → k < length q.list → slice_index itself k ≡ k) → AllByRecursion (λ e. IsPlace q e.target) r.ends
     → moved_key q (slice_index itself) r.class r ≡ link_key q (λ k. k) r
 key_itself q itself r same there = λ i. record { class = r.class; ends = ends r.ends there i; attributes = sort_by attribute_cmp r.attributes; extras = r.extras }
   where

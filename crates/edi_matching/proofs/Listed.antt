@@ -6,7 +6,7 @@ use Rattle.std.proofs.lemmas.List.Elements.{filter_map-append}
 use Rattle.std.proofs.lemmas.List.Sums.{fold-append}
 use Rattle.edi_record.specs.declared.record.Kind.{Kind}
 use Rattle.edi_plan.specs.Places.{places_of}
-use Rattle.edi_plan.specs.Plans.{Drawing, IsPlace, record_at}
+use Rattle.edi_plan.specs.Plans.{PlanData, IsPlace, record_at}
 use Rattle.edi_plan.proofs.PlaceLemmas.{place_of_kind, place_there}
 
 -- what of the elements so far is kept, after one more
@@ -88,10 +88,10 @@ whole_sorted f all items n made sorted is whole was moved = subst (λ xs. IsPerm
 
 -- places of a type
 
-pub listed_there : (kind : Kind) (p : Drawing) (items : List ℕ) (n : ℕ) → items ≡ places_of kind p → n < length items → IsPlace p (get_or items n 0)
+pub listed_there : (kind : Kind) (p : PlanData) (items : List ℕ) (n : ℕ) → items ≡ places_of kind p → n < length items → IsPlace p (get_or items n 0)
 listed_there kind p items n is within =
     subst (λ (xs : List ℕ). IsPlace p (get_or xs n 0)) (sym is) (place_there kind p n (subst (λ (xs : List ℕ). n < length xs) is within))
 
-pub listed_kind : (kind : Kind) (p : Drawing) (items : List ℕ) (n : ℕ) → items ≡ places_of kind p → n < length items → (record_at p (get_or items n 0)).kind ≡ kind
+pub listed_kind : (kind : Kind) (p : PlanData) (items : List ℕ) (n : ℕ) → items ≡ places_of kind p → n < length items → (record_at p (get_or items n 0)).kind ≡ kind
 listed_kind kind p items n is within =
     subst (λ (xs : List ℕ). (record_at p (get_or xs n 0)).kind ≡ kind) (sym is) (place_of_kind kind p n (subst (λ (xs : List ℕ). n < length xs) is within))

@@ -8,7 +8,7 @@ use Rattle.std.proofs.lemmas.Cmp.{alike_right, upto}
 use Rattle.std.proofs.lemmas.List.{drop_more, get_or_default, get_or_read}
 use Rattle.std.proofs.lemmas.List.Sorted.{ranks_by, sorted_far}
 use Rattle.std.proofs.lemmas.List.Sums.{prefix_len-drop_all, prefix_len-drop_no, prefix_len-drop_yes}
-use Rattle.edi_plan.specs.Plans.{Drawing}
+use Rattle.edi_plan.specs.Plans.{PlanData}
 use Rattle.edi_matching.specs.declared.ranked.Member.{Member}
 use Rattle.edi_matching.specs.inner.Additions.{AddsPairs, AreAlike, AreFree, AreInOrder, AreLone, HasKey, HaveLoneKey, IsFirstFrom, IsLone, LeavesNoLone, PairsByKey, PairsIfAlike, StartsRun}
 use Rattle.edi_matching.proofs.KeysAdded.{Shared, has_it}
@@ -114,11 +114,11 @@ lone_starts eq entries at alone = go (cases_eq at 0)
     go (inr ne) = inr (λ d. alone.before d (omega arith))
 
 -- Of the first so many objects none is left that has a key which each list has once, and each entry before a position of the other list has a lesser key than the rest.
-pub record NoneLeft {K : Type 0} (cmp : K → K → Ordering) (eq : K → K → Bool) (p q : Drawing) (objects others : List (K × Member)) (index at : ℕ) (to : List (Option ℕ)) (taken : List Bool) : Type 0 where
+pub record NoneLeft {K : Type 0} (cmp : K → K → Ordering) (eq : K → K → Bool) (p q : PlanData) (objects others : List (K × Member)) (index at : ℕ) (to : List (Option ℕ)) (taken : List Bool) : Type 0 where
   pub passed : (k m : ℕ) (d : K × Member) → k < at → index ≤ m → m < length objects → is_lt (cmp (get_or others k d).0 (get_or objects m d).0) ≡ true
   pub none : (i j : ℕ) (w : HaveLoneKey eq (λ (m : Member). m.place) objects others i j) → w.one.listed.0 < index → AreAlike p q i j → ¬ (AreFree to taken i j)
 
-module _ {K : Type 0} (cmp : K → K → Ordering) (eq : K → K → Bool) (total : IsTotalOrder cmp) (ties : (x y : K) → eq x y ≡ is_eq (cmp x y)) (p q : Drawing) (objects others : List (K × Member)) where
+module _ {K : Type 0} (cmp : K → K → Ordering) (eq : K → K → Bool) (total : IsTotalOrder cmp) (ties : (x y : K) → eq x y ≡ is_eq (cmp x y)) (p q : PlanData) (objects others : List (K × Member)) where
   abbrev pub IsSoFar : ℕ → ℕ → List (Option ℕ) → List Bool → Type 0
   IsSoFar index at to taken = NoneLeft cmp eq p q objects others index at to taken
 
@@ -241,7 +241,7 @@ keys_in_order cmp other entries sorted k d low high =
     first_not_less (cmp (get_or entries (k + 1) d).0 (get_or entries k d).0) (other (get_or entries (k + 1) d).1 (get_or entries k d).1) (sorted k d low high)
 
 -- what was added of lists in order
-pub paired_by_key : {K X E : Type 0} (r : Result X E) (cmp : K → K → Ordering) (eq : K → K → Bool) (other : Member → Member → Ordering) (p q : Drawing) (entries others here there : List (K × Member))
+pub paired_by_key : {K X E : Type 0} (r : Result X E) (cmp : K → K → Ordering) (eq : K → K → Bool) (other : Member → Member → Ordering) (p q : PlanData) (entries others here there : List (K × Member))
     (to : List (Option ℕ)) (taken : List Bool) (more : List (Option ℕ)) (marks : List Bool) → IsPermutation entries here → IsPermutation others there
     → IsSorted (λ x y. ordering_then (cmp x.0 y.0) (other x.1 y.1)) here → IsSorted (λ x y. ordering_then (cmp x.0 y.0) (other x.1 y.1)) there
     → OnOk r (AddsPairs (Shared eq p q here there) to taken more marks) → OnOk r (LeavesNoLone cmp eq p q here there more marks) → OnOk r (PairsByKey eq p q entries others to taken more marks)

@@ -6,7 +6,7 @@ use Rattle.edi_record.specs.declared.record.Kind.TheVariants.{Pfe}
 use Rattle.edi_schema.proofs.SortedLists.{counts_from_permutation, sort_by-same}
 use Rattle.edi_plan.specs.Orders.{attribute_cmp}
 use Rattle.edi_plan.proofs.Orders.{attribute_exact, attribute_total}
-use Rattle.edi_plan.specs.Plans.{Drawing, IsPlace, record_at}
+use Rattle.edi_plan.specs.Plans.{PlanData, IsPlace, record_at}
 use Rattle.edi_plan.specs.Whole.{IsWholePlan}
 use Rattle.edi_plan.specs.declared.record.PlanRecord.{PlanRecord}
 use Rattle.edi_rank.specs.Labelling.{turned_at}
@@ -65,7 +65,7 @@ held_alike a b class attributes extras =
     let sorted = sort_by-same attribute_cmp attribute_total attribute_exact a.attributes b.attributes (counts_from_permutation _ _ attributes) in
     λ i. record { class = class i; attributes = sym sorted i; extras = extras i }
 
-module _ (cmp : ContentKey → ContentKey → Ordering) (eq : ContentKey → ContentKey → Bool) (kind : Kind) (p q : Drawing) (contents : Contents) (are : AreContents cmp eq kind p q contents) where
+module _ (cmp : ContentKey → ContentKey → Ordering) (eq : ContentKey → ContentKey → Bool) (kind : Kind) (p q : PlanData) (contents : Contents) (are : AreContents cmp eq kind p q contents) where
   alike_numbers : (a b : PlanRecord) (n m : ℕ) → b.kind ≡ a.kind → contents_of b ≡ contents_of a → IsContentNumber cmp eq kind are.order a n → IsContentNumber cmp eq kind are.order b m → n ≡ m
   alike_numbers a b n m same held (inl h) (inl k) = one_number cmp eq are.order (contents_of a) n m h.1 (subst (λ (x : ContentKey). IsNumberIn cmp eq are.order x m) held k.1)
   alike_numbers a b n m same held (inl h) (inr k) = absurd (k.0 (same ∙ h.0))

@@ -2,7 +2,7 @@
 use Rattle.std.proofs.Common.{◌≡◌, ℕ, ◌<◌, ◌≤◌, ◌⊎◌, inl, inr, Bool, true, false, true≢false, List, Option, None, Some, length, get_or, set, refl, sym, ap, ◌∙◌, subst, take, ◌++◌, Result, Ok, Err, IfOk, OnOk}
 use Rattle.std.proofs.lemmas.Bool.{cases_eq, cases_lt}
 use Rattle.std.proofs.lemmas.List.{get_or-set_other, get_or-set_same, get_or_past, length-set, take_at}
-use Rattle.edi_plan.specs.Plans.{Drawing}
+use Rattle.edi_plan.specs.Plans.{PlanData}
 use Rattle.edi_matching.specs.Matchings.{GoesTo}
 use Rattle.edi_matching.specs.inner.Inverses.{Grows}
 use Rattle.edi_matching.specs.inner.Additions.{AddsPairs, AreAlike, AreFree, IsAdded, IsKept, IsPaired, PairsIfAlike, PairsIfBoth, PairsIfFree}
@@ -101,12 +101,12 @@ pub adds_if_free : (Pair : ℕ → ℕ → Type 0) (i j : ℕ) (to : List (Optio
 adds_if_free Pair i j to taken more marks pair (inl paired) = adds_paired Pair i j to taken more marks pair paired
 adds_if_free Pair i j to taken more marks pair (inr kept) = adds_kept Pair to taken more marks kept.1
 
-pub adds_if_alike : (Pair : ℕ → ℕ → Type 0) (p q : Drawing) (i j : ℕ) (to : List (Option ℕ)) (taken : List Bool) (more : List (Option ℕ)) (marks : List Bool) → (AreAlike p q i j → Pair i j)
+pub adds_if_alike : (Pair : ℕ → ℕ → Type 0) (p q : PlanData) (i j : ℕ) (to : List (Option ℕ)) (taken : List Bool) (more : List (Option ℕ)) (marks : List Bool) → (AreAlike p q i j → Pair i j)
     → PairsIfAlike p q i j to taken more marks → AddsPairs Pair to taken more marks
 adds_if_alike Pair p q i j to taken more marks pair (inl alike) = adds_paired Pair i j to taken more marks (pair alike.0) alike.1
 adds_if_alike Pair p q i j to taken more marks pair (inr kept) = adds_kept Pair to taken more marks kept.1
 
-pub adds_if_both : (Pair : ℕ → ℕ → Type 0) (p q : Drawing) (place target : Option ℕ) (to : List (Option ℕ)) (taken : List Bool) (more : List (Option ℕ)) (marks : List Bool)
+pub adds_if_both : (Pair : ℕ → ℕ → Type 0) (p q : PlanData) (place target : Option ℕ) (to : List (Option ℕ)) (taken : List Bool) (more : List (Option ℕ)) (marks : List Bool)
     → ((i j : ℕ) → place ≡ Some i → target ≡ Some j → AreAlike p q i j → Pair i j) → PairsIfBoth p q place target to taken more marks → AddsPairs Pair to taken more marks
 adds_if_both Pair p q None target to taken more marks pair kept = adds_kept Pair to taken more marks kept
 adds_if_both Pair p q (Some i) None to taken more marks pair kept = adds_kept Pair to taken more marks kept
@@ -186,7 +186,7 @@ module _ (Pair : ℕ → ℕ → Type 0) (to : List (Option ℕ)) (taken : List 
   }
 
 -- two that hold the same aren't left
-pub not_left : (p q : Drawing) (i j : ℕ) (to : List (Option ℕ)) (taken : List Bool) (more : List (Option ℕ)) (marks : List Bool) → PairsIfAlike p q i j to taken more marks → AreAlike p q i j → ¬ (AreFree more marks i j)
+pub not_left : (p q : PlanData) (i j : ℕ) (to : List (Option ℕ)) (taken : List Bool) (more : List (Option ℕ)) (marks : List Bool) → PairsIfAlike p q i j to taken more marks → AreAlike p q i j → ¬ (AreFree more marks i j)
 not_left p q i j to taken more marks (inr kept) alike free =
     kept.0 (alike, subst (λ (ts : List (Option ℕ)). AreFree ts taken i j) kept.1.places (subst (λ (bs : List Bool). AreFree more bs i j) kept.1.marked free))
 not_left p q i j to taken more marks (inl pairs) alike free =

@@ -9,7 +9,7 @@ use Rattle.edi_record.specs.Shapes.{may_have_ends}
 use Rattle.edi_record.specs.declared.record.Kind.{Kind}
 use Rattle.edi_record.specs.declared.record.Kind.TheVariants.{Pno, Par}
 use Rattle.edi_schema.specs.Classes.{Classes, partner_of}
-use Rattle.edi_plan.specs.Plans.{Drawing, IsPlace, record_at, first_of, rest_of, others_of}
+use Rattle.edi_plan.specs.Plans.{PlanData, IsPlace, record_at, first_of, rest_of, others_of}
 use Rattle.edi_plan.specs.Whole.{IsWholePlan}
 use Rattle.edi_plan.specs.declared.record.PlanEnd.{PlanEnd}
 use Rattle.edi_plan.specs.declared.record.PlanRecord.{PlanRecord}
@@ -54,7 +54,7 @@ none_carried s to turned i a b none none' same = record {
       (subst (λ (ends : List PlanEnd). IsPermutation [] (rest_of ends)) (sym none') (IsPermutation-refl []));
 }
 
-module _ (p q : Drawing) (whole : IsWholePlan p) (whole' : IsWholePlan q) (sound : IsUnbroken (BreaksTopologyRule p)) (m : Matching) (entered : length m.to ≡ length p.list) (directed : length m.turned ≡ length p.list)
+module _ (p q : PlanData) (whole : IsWholePlan p) (whole' : IsWholePlan q) (sound : IsUnbroken (BreaksTopologyRule p)) (m : Matching) (entered : length m.to ≡ length p.list) (directed : length m.turned ≡ length p.list)
     (each : (i : ℕ) → IsPlace p i → GoesToPartner (record { plan = p; other = q }) i (get_or m.to i None) (turned_at m.turned i)) where
   place : (i j : ℕ) → GoesTo m.to i j → IsPlace p i
   place i j e = let less = goes_within m.to i j e in omega (arith, less, entered)
@@ -130,7 +130,7 @@ partners_known two whole whole' sound to ts to' ts' e f n all long long' each =
 
 -- a matching is total exactly if the plans are the same
 
-pub pairing_known : {E : Type 0} (s : Classes) (p q : Drawing) (pairing : Pairing) → IsWholePlan p → PairingCarries s p q pairing → (r : Result Matching E) → IfOk r (λ m. m ≡ matching_of pairing)
+pub pairing_known : {E : Type 0} (s : Classes) (p q : PlanData) (pairing : Pairing) → IsWholePlan p → PairingCarries s p q pairing → (r : Result Matching E) → IfOk r (λ m. m ≡ matching_of pairing)
     → IfOk r (MatchingHolds s p q) × IfOk r (IsTotalIfSame s p q) × IfOk r (MatchesPartners p q) × IfOk r (MatchesFaces s p q) × IfOk r (MatchesLinks s p q)
 pairing_known s p q pairing whole c (Err e) is = (tt, tt, tt, tt, tt)
 pairing_known s p q pairing whole c (Ok m) is = (
@@ -144,7 +144,7 @@ pairing_known s p q pairing whole c (Ok m) is = (
   subst (MatchesLinks s p q) (sym is) (λ i j link missed. missed.left ((pairing_total s p q pairing whole c).each i missed.here)),
 )
 
-pub different_known : {E : Type 0} (s : Classes) (p q : Drawing) → ¬ (Same s p q) → (r : Result Matching E) → IfOk r (MatchingHolds s p q) → IfOk r (IsTotalIfSame s p q)
+pub different_known : {E : Type 0} (s : Classes) (p q : PlanData) → ¬ (Same s p q) → (r : Result Matching E) → IfOk r (MatchingHolds s p q) → IfOk r (IsTotalIfSame s p q)
 different_known s p q none (Err e) holds = tt
 different_known s p q none (Ok m) holds = (
   λ total. let c = total_carries s p q m holds total.0 total.1 in (slice_index (targets_of m.to), turned_at m.turned, c.carries),
@@ -152,6 +152,6 @@ different_known s p q none (Ok m) holds = (
 )
 
 -- what matches more matches partners too
-pub partners_kept : {E : Type 0} (p q : Drawing) (m : Matching) → MatchesPartners p q m → (r : Result Matching E) → IfOk r (λ n. (i : ℕ) → IsMatched m.to i → IsMatched n.to i) → IfOk r (MatchesPartners p q)
+pub partners_kept : {E : Type 0} (p q : PlanData) (m : Matching) → MatchesPartners p q m → (r : Result Matching E) → IfOk r (λ n. (i : ℕ) → IsMatched m.to i → IsMatched n.to i) → IfOk r (MatchesPartners p q)
 partners_kept p q m matched (Err e) unchanged = tt
 partners_kept p q m matched (Ok n) unchanged = λ i j t both. unchanged i (matched i j t both)

@@ -3,7 +3,7 @@ use Rattle.std.proofs.Common.{◌≡◌, ℕ, Bool, false, ◌&&◌, cond, List,
 use Rattle.std.specs.Borrow.{Bor}
 use Rattle.edi_record.specs.declared.record.Extra.{Extra}
 use Rattle.edi_schema.specs.Classes.{Classes, partner_of}
-use Rattle.edi_plan.specs.Plans.{Drawing}
+use Rattle.edi_plan.specs.Plans.{PlanData}
 use Rattle.edi_plan.specs.declared.record.PlanAttribute.{PlanAttribute}
 use Rattle.edi_plan.specs.declared.record.PlanEnd.{PlanEnd}
 use Rattle.edi_plan.specs.declared.record.PlanRecord.{PlanRecord}
@@ -73,7 +73,7 @@ still_none : {X Y : Type 0} (f : X → Y) (o : Option X) → is_some o ≡ false
 still_none f None e = refl
 still_none f (Some x) e = e
 
-pub link_known : (s : Classes) (p : Drawing) (to : List (Option ℕ)) (turned : List Bool) (r : PlanRecord) (found : Option (Bor PlanEnd × Bor PlanEnd)) → is_some found ≡ false
+pub link_known : (s : Classes) (p : PlanData) (to : List (Option ℕ)) (turned : List Bool) (r : PlanRecord) (found : Option (Bor PlanEnd × Bor PlanEnd)) → is_some found ≡ false
     → IfSome found (λ w. IsPlainLink r w.0.now w.1.now) → (IsNone found → (origin other : PlanEnd) → ¬ (IsPlainLink r origin other)) → (ends : List NumberedEnd) → ends_there p to r.ends ≡ Some ends
     → link_there s p to turned r ≡ Some (link_key_with (class_after (partner_of s) (turned_at turned) r) ends r)
 link_known s p to turned r found without some none ends goes =

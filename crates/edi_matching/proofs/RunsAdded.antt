@@ -5,7 +5,7 @@ use Rattle.std.specs.List.{before_first, position_or_len}
 use Rattle.std.proofs.lemmas.Bool.{ltb-false, not-false}
 use Rattle.std.proofs.lemmas.List.{get_or-drop, get_or-take, length-drop, length-take, take_all}
 use Rattle.std.proofs.lemmas.List.Sums.{fails_before_first}
-use Rattle.edi_plan.specs.Plans.{Drawing}
+use Rattle.edi_plan.specs.Plans.{PlanData}
 use Rattle.edi_matching.specs.declared.ranked.Member.{Member}
 use Rattle.edi_matching.specs.inner.Additions.{AreAlike, HasKey, HaveOneKey, IsListed, StartsRun}
 use Rattle.edi_matching.proofs.RecordsAdded.{same_default}
@@ -28,7 +28,7 @@ run_listed {K} eq entries from key x c =
       sym (ap (λ (z : K × Member). eq z.0 key) same) ∙ not-false (eq (get_or (drop from entries) k x).0 key) (fails_before_first other (drop from entries) k x few),
     )
 
-pub runs_share : {K : Type 0} (eq : K → K → Bool) → IsEquivalence eq → (p q : Drawing) (entries others : List (K × Member)) (from at : ℕ) (key : K) (i j : ℕ)
+pub runs_share : {K : Type 0} (eq : K → K → Bool) → IsEquivalence eq → (p q : PlanData) (entries others : List (K × Member)) (from at : ℕ) (key : K) (i j : ℕ)
     → IsListed (run_of eq entries from key) i × IsListed (run_of eq others at key) j × AreAlike p q i j → HaveOneKey eq (λ (m : Member). m.place) entries others i j × AreAlike p q i j
 runs_share eq laws p q entries others from at key i j w =
     let x = w.0.0 in

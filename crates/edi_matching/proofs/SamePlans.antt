@@ -6,7 +6,7 @@ use Rattle.edi_record.specs.declared.record.Kind.{Kind}
 use Rattle.edi_record.specs.declared.record.Kind.TheVariants.{Pno, Par, Pfe, Fea, Lnk}
 use Rattle.edi_schema.specs.Classes.{Classes, IsSchema}
 use Rattle.edi_plan.specs.Agreeing.{Agrees, HasClasses}
-use Rattle.edi_plan.specs.Plans.{Drawing, record_at}
+use Rattle.edi_plan.specs.Plans.{PlanData, record_at}
 use Rattle.edi_topo.specs.TopologyRules.{BreaksTopologyRule}
 use Rattle.edi_rank.specs.EqualObjects.{BreaksObjectRule}
 use Rattle.edi_rank.specs.Arranged.{arranged, new_place}
@@ -20,30 +20,30 @@ use Rattle.edi_rank.proofs.Offsets.{one_count}
 use Rattle.edi_rank.proofs.SameLaws.{same_sym, same_trans}
 use Rattle.edi_rank.proofs.Unique.{same_plan}
 use Rattle.edi_compare.specs.Laws.{IsAcceptedPlan}
-use Rattle.edi_compare.specs.Namesakes.{HasNamesakes, IsNumbered, PairsByNumber}
+use Rattle.edi_compare.specs.Counterparts.{HasCounterparts, IsNumbered, PairsByNumber}
 use Rattle.edi_compare.specs.Pairings.{PairingCarries}
 use Rattle.edi_compare.specs.declared.numbered.NumberedRecords.{NumberedRecords}
 use Rattle.edi_compare.specs.declared.pairing.Pairing.{Pairing}
 use Rattle.edi_compare.proofs.Classed.{classed}
 use Rattle.edi_compare.proofs.Headline.{plan_under, objects_hold, topology_hold}
-use Rattle.edi_compare.proofs.Pairs.{have_namesakes, pairing_carries}
+use Rattle.edi_compare.proofs.Pairs.{have_counterparts, pairing_carries}
 use Rattle.edi_matching.specs.inner.Same.{AreAsMany}
 
 -- what is known of the plan of an accepted sheet
 
-pub accepted_under : (s : Classes) (p : Drawing) → IsSchema s → IsAcceptedPlan s p → IsPlanUnder s p
+pub accepted_under : (s : Classes) (p : PlanData) → IsSchema s → IsAcceptedPlan s p → IsPlanUnder s p
 accepted_under s p keeps h = plan_under s h.0 p keeps h.1 h.2
 
-pub accepted_agrees : (s : Classes) (p : Drawing) → IsSchema s → IsAcceptedPlan s p → Agrees s p
+pub accepted_agrees : (s : Classes) (p : PlanData) → IsSchema s → IsAcceptedPlan s p → Agrees s p
 accepted_agrees s p keeps h = (accepted_under s p keeps h).agrees
 
-pub accepted_classed : (s : Classes) (p : Drawing) → IsSchema s → IsAcceptedPlan s p → HasClasses s p
+pub accepted_classed : (s : Classes) (p : PlanData) → IsSchema s → IsAcceptedPlan s p → HasClasses s p
 accepted_classed s p keeps h = classed s p.list (accepted_agrees s p keeps h)
 
-pub accepted_apart : (s : Classes) (p : Drawing) → IsAcceptedPlan s p → IsUnbroken (BreaksObjectRule p)
+pub accepted_apart : (s : Classes) (p : PlanData) → IsAcceptedPlan s p → IsUnbroken (BreaksObjectRule p)
 accepted_apart s p h = objects_hold s h.0 h.1 p h.2
 
--- as many records of each type have namesakes
+-- as many records of each type have counterparts
 
 each_many : (l m : Labelling) → AreAsMany l m → (kind : Kind) → length (order_of l kind) ≡ length (order_of m kind)
 each_many l m many Pno = many.nodes
@@ -52,10 +52,10 @@ each_many l m many Pfe = many.faces
 each_many l m many Fea = many.objects
 each_many l m many Lnk = many.links
 
-module _ (s : Classes) (p q : Drawing) (l m : Labelling) (labels : AreLabels s p l) (labels' : AreLabels s q m) where
-  pub many_have_namesakes : (f : NumberedRecords) → IsNumbered p l f → AreAsMany l m → HasNamesakes f m
-  many_have_namesakes f first many =
-      have_namesakes s p q l m labels labels' f first
+module _ (s : Classes) (p q : PlanData) (l m : Labelling) (labels : AreLabels s p l) (labels' : AreLabels s q m) where
+  pub many_have_counterparts : (f : NumberedRecords) → IsNumbered p l f → AreAsMany l m → HasCounterparts f m
+  many_have_counterparts f first many =
+      have_counterparts s p q l m labels labels' f first
       (λ k h.
       let kind = (record_at p k).kind in
       omega (arith, slice_get_within (order_of l kind) (number_of l k - 1) k (labels.to_count k h), each_many l m many kind, labels.from_one k h))
@@ -82,7 +82,7 @@ module _ (s : Classes) (p q : Drawing) (l m : Labelling) (labels : AreLabels s p
 
 -- the same of plans of accepted sheets
 
-module _ (s : Classes) (p q : Drawing) (l m : Labelling) (keeps : IsSchema s) (accepted : IsAcceptedPlan s p) (accepted' : IsAcceptedPlan s q) (labels : AreLabels s p l) (labels' : AreLabels s q m) where
+module _ (s : Classes) (p q : PlanData) (l m : Labelling) (keeps : IsSchema s) (accepted : IsAcceptedPlan s p) (accepted' : IsAcceptedPlan s q) (labels : AreLabels s p l) (labels' : AreLabels s q m) where
   under : IsPlanUnder s p
   under = accepted_under s p keeps accepted
 

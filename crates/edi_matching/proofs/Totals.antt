@@ -2,7 +2,7 @@
 use Rattle.std.proofs.Common.{◌≡◌, ℕ, zero, suc, ◌<◌, List, [], ◌∷◌, map, map-id, length, slice_index, unwrap_or, Option, None, Some, sym, ap, ◌∙◌, subst, arith}
 use Rattle.std.proofs.lemmas.List.{get_or-map, length-map}
 use Rattle.edi_schema.specs.Classes.{Classes}
-use Rattle.edi_plan.specs.Plans.{Drawing, IsPlace, record_at}
+use Rattle.edi_plan.specs.Plans.{PlanData, IsPlace, record_at}
 use Rattle.edi_plan.specs.Whole.{IsWholePlan}
 use Rattle.edi_plan.specs.declared.record.PlanEnd.{PlanEnd}
 use Rattle.edi_rank.specs.Labelling.{turned_at}
@@ -33,7 +33,7 @@ goes_within [] i j e = cc
 goes_within (o ∷ to) zero j e = omega arith
 goes_within (o ∷ to) (suc i) j e = let less = goes_within to i j e in omega arith
 
-module _ (s : Classes) (p q : Drawing) (m : Matching) (holds : MatchingHolds s p q m) (total : IsTotal p q m) where
+module _ (s : Classes) (p q : PlanData) (m : Matching) (holds : MatchingHolds s p q m) (total : IsTotal p q m) where
   goes : (i : ℕ) → IsPlace p i → GoesTo m.to i (slice_index (targets_of m.to) i)
   goes i h = let w = total.each i h in w.1 ∙ ap Some (sym (target_is m.to i w.0 w.1))
 
@@ -70,7 +70,7 @@ targets_back to = map-map target Some to ∙ map-id to
 goes_there : (to : List ℕ) (i : ℕ) → i < length to → GoesTo (map Some to) i (slice_index to i)
 goes_there to i h = get_or-map Some to i 0 None h
 
-module _ (s : Classes) (p q : Drawing) (pairing : Pairing) (whole : IsWholePlan p) (c : PairingCarries s p q pairing) where
+module _ (s : Classes) (p q : PlanData) (pairing : Pairing) (whole : IsWholePlan p) (c : PairingCarries s p q pairing) where
   abbrev to : List (Option ℕ)
   to = map Some pairing.to
 

@@ -6,7 +6,7 @@ use Rattle.edi_schema.specs.Classes.{Classes}
 use Rattle.edi_schema.specs.Roles.{exchanged}
 use Rattle.edi_schema.specs.declared.role.Role.{Role}
 use Rattle.edi_schema.specs.declared.role.Role.TheVariants.{Left, Right}
-use Rattle.edi_plan.specs.Plans.{Drawing, IsPlace, record_at}
+use Rattle.edi_plan.specs.Plans.{PlanData, IsPlace, record_at}
 use Rattle.edi_plan.specs.Sides.{Side}
 use Rattle.edi_plan.specs.declared.record.PlanRecord.{PlanRecord}
 use Rattle.edi_rank.specs.Labelling.{turned_at}
@@ -24,14 +24,14 @@ pub record HoldsSame (a b : PlanRecord) (turned : Bool) : Type 0 where
   pub arc : turned ≡ true → a.kind ≡ Par
 
 -- a node or an arc of p, at the place i, and one of q that holds the same
-pub record ArePartners (p q : Drawing) (i j : ℕ) (turned : Bool) : Type 0 where
+pub record ArePartners (p q : PlanData) (i j : ℕ) (turned : Bool) : Type 0 where
   pub here : IsPlace p i
   pub there : IsPlace q j
   pub kind : ((record_at p i).kind ≡ Pno) ⊎ ((record_at p i).kind ≡ Par)
   pub same : HoldsSame (record_at p i) (record_at q j) turned
 
 -- each node and each arc of p that has a partner in q is matched
-abbrev pub MatchesPartners : Drawing → Drawing → Matching → Type 0
+abbrev pub MatchesPartners : PlanData → PlanData → Matching → Type 0
 MatchesPartners p q m = (i j : ℕ) (turned : Bool) → ArePartners p q i j turned → IsMatched m.to i
 
 -- a record goes to the place j
@@ -40,7 +40,7 @@ IsReached to j = (i : ℕ) × GoesTo to i j
 
 -- The matching leaves out a record of p, at the place i, and one of q, though the ends of the one are matched and it is
 -- carried onto the other.
-pub record IsMissed (s : Classes) (p q : Drawing) (m : Matching) (i j : ℕ) : Type 0 where
+pub record IsMissed (s : Classes) (p q : PlanData) (m : Matching) (i j : ℕ) : Type 0 where
   pub here : IsPlace p i
   pub there : IsPlace q j
   pub left : ¬ (IsMatched m.to i)
@@ -49,7 +49,7 @@ pub record IsMissed (s : Classes) (p q : Drawing) (m : Matching) (i j : ℕ) : T
   pub carried : CarriesRecord s (slice_index (targets_of m.to)) (turned_at m.turned) i (record_at p i) (record_at q j)
 
 -- no link is left out together with one that it is carried onto
-abbrev pub MatchesLinks : Classes → Drawing → Drawing → Matching → Type 0
+abbrev pub MatchesLinks : Classes → PlanData → PlanData → Matching → Type 0
 MatchesLinks s p q m = (i j : ℕ) → (record_at p i).kind ≡ Lnk → ¬ (IsMissed s p q m i j)
 
 -- what a role of an arc becomes where the arc goes: the exchanged one, if it is reversed
@@ -57,7 +57,7 @@ abbrev pub role_there : Matching → ℕ → Role → Role
 role_there m arc role = if turned_at m.turned arc then exchanged role else role
 
 -- a matched arc has f by the role, and the arc that it goes to has g by what the role becomes
-pub record AreBeside (p q : Drawing) (m : Matching) (role : Role) (arc f g : ℕ) : Type 0 where
+pub record AreBeside (p q : PlanData) (m : Matching) (role : Role) (arc f g : ℕ) : Type 0 where
   pub other : ℕ
   pub goes : GoesTo m.to arc other
   pub here : Side p arc role f
@@ -65,15 +65,15 @@ pub record AreBeside (p q : Drawing) (m : Matching) (role : Role) (arc f g : ℕ
 
 -- no two that a matched arc and the one it goes to have by the role are left out, though the one is carried onto the
 -- other
-abbrev pub MatchesBeside : Role → Classes → Drawing → Drawing → Matching → Type 0
+abbrev pub MatchesBeside : Role → Classes → PlanData → PlanData → Matching → Type 0
 MatchesBeside role s p q m = (arc f g : ℕ) → AreBeside p q m role arc f g → ¬ (IsMissed s p q m f g)
 
 -- no face of a matched arc is left out together with that on the same side of the arc it goes to, though the one is
 -- carried onto the other
-pub record MatchesFaces (s : Classes) (p q : Drawing) (m : Matching) : Type 0 where
+pub record MatchesFaces (s : Classes) (p q : PlanData) (m : Matching) : Type 0 where
   pub on_left : MatchesBeside Left s p q m
   pub on_right : MatchesBeside Right s p q m
 
 -- the matching leaves nothing out of plans with one character set exactly if the plans are the same
-abbrev pub IsTotalIfSame : Classes → Drawing → Drawing → Matching → Type 0
+abbrev pub IsTotalIfSame : Classes → PlanData → PlanData → Matching → Type 0
 IsTotalIfSame s p q m = (IsTotal p q m × (q.cse ≡ p.cse)) ↔ Same s p q

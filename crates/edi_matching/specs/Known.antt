@@ -2,7 +2,7 @@
 use Rattle.std.specs.Prelude.{ℕ, pos, false, [], ◌∷◌, Some, None}
 use Rattle.edi_record.specs.declared.record.Kind.TheVariants.{Pno}
 use Rattle.edi_schema.specs.declared.role.Role.TheVariants.{Plain}
-use Rattle.edi_plan.specs.Plans.{Drawing}
+use Rattle.edi_plan.specs.Plans.{PlanData}
 use Rattle.edi_plan.specs.declared.record.PlanRecord.{PlanRecord}
 use Rattle.edi_matching.specs.declared.matching.Matching.{Matching}
 
@@ -19,10 +19,10 @@ node_at x =
       ends = [];
     }
 
-abbrev pub two_nodes : Drawing
+abbrev pub two_nodes : PlanData
 two_nodes = record { cse = None; list = node_at 1 ∷ node_at 2 ∷ [] }
 
-abbrev pub moved_node : Drawing
+abbrev pub moved_node : PlanData
 moved_node = record { cse = None; list = node_at 3 ∷ node_at 1 ∷ [] }
 
 -- the first node is the second of the other plan

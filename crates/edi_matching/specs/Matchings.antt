@@ -3,7 +3,7 @@ use Rattle.std.specs.Prelude.{◌≡◌, ℕ, List, map, length, slice_index, sl
 use Rattle.std.specs.List.{AllByRecursion}
 use Rattle.edi_record.specs.declared.record.Kind.TheVariants.{Par}
 use Rattle.edi_schema.specs.Classes.{Classes}
-use Rattle.edi_plan.specs.Plans.{Drawing, IsPlace, record_at}
+use Rattle.edi_plan.specs.Plans.{PlanData, IsPlace, record_at}
 use Rattle.edi_rank.specs.Labelling.{turned_at}
 use Rattle.edi_rank.specs.Same.{CarriesRecord}
 use Rattle.edi_matching.specs.declared.matching.Matching.{Matching}
@@ -23,7 +23,7 @@ targets_of to = map (λ target. unwrap_or target 0) to
 -- The matching has an entry for each record of p. No two records go to one; those that are reversed are matched arcs;
 -- the ends of a matched record are matched; and each matched record is carried, with its ends, onto the record of q
 -- that it goes to.
-pub record MatchingHolds (s : Classes) (p q : Drawing) (m : Matching) : Type 0 where
+pub record MatchingHolds (s : Classes) (p q : PlanData) (m : Matching) : Type 0 where
   pub all_entered : length m.to ≡ length p.list
   pub all_directed : length m.turned ≡ length p.list
   pub within : (i j : ℕ) → GoesTo m.to i j → IsPlace q j
@@ -34,6 +34,6 @@ pub record MatchingHolds (s : Classes) (p q : Drawing) (m : Matching) : Type 0 w
       → CarriesRecord s (slice_index (targets_of m.to)) (turned_at m.turned) i (record_at p i) (record_at q j)
 
 -- each record of p is matched, and each record of q is one that it goes to
-pub record IsTotal (p q : Drawing) (m : Matching) : Type 0 where
+pub record IsTotal (p q : PlanData) (m : Matching) : Type 0 where
   pub each : (i : ℕ) → IsPlace p i → IsMatched m.to i
   pub onto : (j : ℕ) → IsPlace q j → (i : ℕ) × GoesTo m.to i j

@@ -4,7 +4,7 @@ use Rattle.std.specs.List.{list_any, range_with_len}
 use Rattle.std.proofs.Math.Path.{fun_ext}
 use Rattle.std.proofs.lemmas.List.{get_or_past}
 use Rattle.std.proofs.lemmas.List.FromFn.{get_or-map-range_with_len}
-use Rattle.edi_plan.specs.Plans.{Drawing, blank, record_at}
+use Rattle.edi_plan.specs.Plans.{PlanData, blank, record_at}
 use Rattle.edi_plan.specs.Sides.{targets}
 use Rattle.edi_plan.specs.declared.record.PlanRecord.{PlanRecord}
 use Rattle.edi_report.specs.Reports.{Report, parts_at}
@@ -32,9 +32,9 @@ pub tested_bent : (r : Report) (marks : List Bool) → marks ≡ map (is_bent r)
 tested_bent r marks is = tested_mapped (is_bent r) (length r.first.accepted.list) (bent_behind r) marks is
 
 -- what is counted by marks is counted by the test that they are made from
-pub counted_known : (test : ℕ → Bool) (p q : Drawing) (n : ℕ) (marks : List Bool) (counts : List ℕ) → q ≡ p → AreTested test n marks
+pub counted_known : (test : ℕ → Bool) (p q : PlanData) (n : ℕ) (marks : List Bool) (counts : List ℕ) → q ≡ p → AreTested test n marks
     → counts ≡ map (bounds_count (test_of marks) q) (range_with_len 0 (length q.list)) → AreCounted test p counts
-counted_known test p q n marks counts same tested is = subst (λ (d : Drawing). AreCounted test d counts) same each
+counted_known test p q n marks counts same tested is = subst (λ (d : PlanData). AreCounted test d counts) same each
   where
     each : AreCounted test q counts
     each i h = ap (λ (xs : List ℕ). get_or xs i 0) is

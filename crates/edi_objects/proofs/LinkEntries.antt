@@ -4,7 +4,7 @@ use Rattle.std.specs.List.{AllByRecursion, flat_map}
 use Rattle.std.proofs.lemmas.List.Sorted.{IsPermutation-sym}
 use Rattle.edi_record.specs.declared.record.Kind.TheVariants.{Lnk}
 use Rattle.edi_plan.specs.Places.{places_of}
-use Rattle.edi_plan.specs.Plans.{Drawing, IsPlace, record_at}
+use Rattle.edi_plan.specs.Plans.{PlanData, IsPlace, record_at}
 use Rattle.edi_plan.specs.Sides.{targets}
 use Rattle.edi_plan.proofs.PlaceLemmas.{has_place, place_of_kind, place_there}
 use Rattle.edi_rank.proofs.ArrangedUnder.{all_along}
@@ -58,10 +58,10 @@ all_unjoined P f (x ∷ xs) all = (all_left P (f x) (flat_map f xs) all, all_unj
 
 -- ---- the links of a record
 
-index_permuted : (p : Drawing) → IsPermutation (index_of p) (all_named p)
+index_permuted : (p : PlanData) → IsPermutation (index_of p) (all_named p)
 index_permuted p = unfold index_of in IsPermutation-sort_by naming_cmp naming_total (all_named p)
 
-module _ (p : Drawing) (place : ℕ) (P : ℕ → Type 0) where
+module _ (p : PlanData) (place : ℕ) (P : ℕ → Type 0) where
   -- what holds of a link where it names the record
   abbrev Entered : ℕ × ℕ → Type 0
   Entered x = eqb x.0 place ≡ true → P x.1
@@ -77,7 +77,7 @@ module _ (p : Drawing) (place : ℕ) (P : ℕ → Type 0) where
       let its : AllByRecursion Entered (named_by p link) = subst (λ (k : ℕ). AllByRecursion Entered (named_by p k)) found.2 at in
       one_of_all (λ (t : ℕ). Entered (t, link)) (targets (record_at p link)) (all_unmapped (λ (t : ℕ). (t, link)) Entered (targets (record_at p link)) its) is.at 0 is.within (eq-eqb _ _ is.names)
 
-module _ (p : Drawing) (place : ℕ) where
+module _ (p : PlanData) (place : ℕ) where
   abbrev IsNamed : ℕ × ℕ → Type 0
   IsNamed x = IsLinkOf p x.0 x.1
 

@@ -12,7 +12,7 @@ use Rattle.edi_report.specs.Reports.{Report}
 use Rattle.edi_report.specs.Tables.{AreMarks}
 use Rattle.edi_objects.specs.Differing.{arrives, is_differing, moved_to, outline_differs}
 use Rattle.edi_objects.specs.LinksOf.{index_of}
-use Rattle.edi_plan.specs.Plans.{Drawing}
+use Rattle.edi_plan.specs.Plans.{PlanData}
 use Rattle.edi_objects.specs.inner.Marks.{is_moved_onto}
 use Rattle.edi_objects.specs.declared.account.Notes.{Notes}
 use Rattle.edi_objects.specs.inner.Sheets.{AreNotes, AreTested, test_of}
@@ -40,7 +40,7 @@ lines_more f k old text new so_far more =
     more ∙ (ap (λ (t : List ℕ). t ++ f k) so_far ∙ (flat_map_more f old (range_with_len 0 k) k ∙ ap (λ (ys : List ℕ). old ++ flat_map f ys) (sym (range_more k))))
 
 -- the notes on a plan
-pub notes_are : (test : ℕ → Bool) (p : Drawing) (marks : List Bool) (notes : Notes) → AreTested test (length p.list) marks
+pub notes_are : (test : ℕ → Bool) (p : PlanData) (marks : List Bool) (notes : Notes) → AreTested test (length p.list) marks
     → notes.index.items ≡ index_of p → notes.marks.items ≡ marks
     → notes.outlines.items ≡ map (outline_differs (test_of marks) p) (range_with_len 0 (length p.list)) → AreNotes test p notes
 notes_are test p marks notes tested indexed same outlined = record {

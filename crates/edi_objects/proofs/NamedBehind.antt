@@ -2,7 +2,7 @@
 use Rattle.std.proofs.Common.{◌≡◌, ◌∙◌, ◌<◌, ◌||◌, ℕ, zero, suc, Bool, false, List, [], ◌∷◌, IfOk, Ok, Err, Result, ap, ap₂, arith, drop, get_or, length, map, refl, subst}
 use Rattle.std.specs.List.{AllByRecursion, list_any, range_with_len}
 use Rattle.std.proofs.lemmas.List.FromFn.{get_or-map-range_with_len}
-use Rattle.edi_plan.specs.Plans.{Drawing, IsPlace, record_at}
+use Rattle.edi_plan.specs.Plans.{PlanData, IsPlace, record_at}
 use Rattle.edi_plan.specs.Sides.{targets}
 use Rattle.edi_plan.specs.Whole.{IsWholePlan}
 use Rattle.edi_plan.specs.declared.record.PlanEnd.{PlanEnd}
@@ -36,11 +36,11 @@ further_known r whole others further are is i h =
     (all_weaker (IsPlace r.first.accepted) (λ (x : ℕ). test_of others x ≡ has_other_outline r x) are (targets (record_at r.first.accepted i))
     (all_mapped (λ (e : PlanEnd). e.target) (IsPlace r.first.accepted) (record_at r.first.accepted i).ends (whole.there i h))))
 
-pub further_found : {X E : Type 0} (r : Report) (p : Drawing) (others : List Bool) (found : Result X E) (items : X → List Bool) → p ≡ r.first.accepted → IsWholePlan p → AreOthers r others
+pub further_found : {X E : Type 0} (r : Report) (p : PlanData) (others : List Bool) (found : Result X E) (items : X → List Bool) → p ≡ r.first.accepted → IsWholePlan p → AreOthers r others
     → IfOk found (λ x. items x ≡ map (names_further (test_of others) p) (range_with_len 0 (length p.list))) → IfOk found (λ x. AreFurther r (items x))
 further_found r p others (Err e) items is whole are marked = tt
 further_found r p others (Ok x) items is whole are marked =
-    further_known r (subst IsWholePlan is whole) others (items x) are (subst (λ (q : Drawing). items x ≡ map (names_further (test_of others) q) (range_with_len 0 (length q.list))) is marked)
+    further_known r (subst IsWholePlan is whole) others (items x) are (subst (λ (q : PlanData). items x ≡ map (names_further (test_of others) q) (range_with_len 0 (length q.list))) is marked)
 
 pub mapped_drop : {X Y : Type 0} (f : X → Y) (n : ℕ) (xs : List X) → map f (drop n xs) ≡ drop n (map f xs)
 mapped_drop f zero xs = refl

@@ -8,7 +8,7 @@ use Rattle.edi_record.specs.Records.{is_link}
 use Rattle.edi_record.specs.Shapes.{may_have_ends, may_have_points}
 use Rattle.edi_record.specs.declared.record.Kind.{Kind}
 use Rattle.edi_record.specs.declared.record.Kind.TheVariants.{Pno, Par, Pfe, Fea, Lnk}
-use Rattle.edi_plan.specs.Plans.{Drawing, IsPlace, is_object, record_at}
+use Rattle.edi_plan.specs.Plans.{PlanData, IsPlace, is_object, record_at}
 use Rattle.edi_plan.specs.Sides.{targets}
 use Rattle.edi_plan.specs.Whole.{IsWholePlan}
 use Rattle.edi_plan.specs.declared.record.PlanEnd.{PlanEnd}
@@ -36,11 +36,11 @@ empty : {X : Type 0} (xs : List X) → length xs ≡ 0 → xs ≡ []
 empty [] e = refl
 empty (x ∷ xs) e = absurd (omega (arith, e))
 
-no_points : (p : Drawing) → IsWholePlan p → (k : ℕ) → IsPlace p k → (record_at p k).kind ≡ Fea → (record_at p k).points ≡ []
+no_points : (p : PlanData) → IsWholePlan p → (k : ℕ) → IsPlace p k → (record_at p k).kind ≡ Fea → (record_at p k).points ≡ []
 no_points p whole k there is = empty _ (eqb-true (length (record_at p k).points) 0 (ap (λ (kind : Kind). may_have_points kind (length (record_at p k).points)) (sym is) ∙ whole.points k there))
 
 -- a record that is no link names none
-no_ends : (p : Drawing) → IsWholePlan p → (k : ℕ) → IsPlace p k → (kind : Kind) → (record_at p k).kind ≡ kind → is_link kind ≡ false → (record_at p k).ends ≡ []
+no_ends : (p : PlanData) → IsWholePlan p → (k : ℕ) → IsPlace p k → (kind : Kind) → (record_at p k).kind ≡ kind → is_link kind ≡ false → (record_at p k).ends ≡ []
 no_ends p whole k there kind is none = empty _ (go kind none (ap (λ (x : Kind). may_have_ends x (length (record_at p k).ends)) (sym is) ∙ whole.ends k there))
   where
     go : (x : Kind) → is_link x ≡ false → may_have_ends x (length (record_at p k).ends) ≡ true → length (record_at p k).ends ≡ 0
@@ -51,11 +51,11 @@ no_ends p whole k there kind is none = empty _ (go kind none (ap (λ (x : Kind).
     go Lnk e h = absurd (true≢false e)
 
 -- what a link names is a record, and no link
-pub named_place : (p : Drawing) → IsWholePlan p → (place link : ℕ) → IsLinkOf p place link → IsPlace p place
+pub named_place : (p : PlanData) → IsWholePlan p → (place link : ℕ) → IsLinkOf p place link → IsPlace p place
 named_place p whole place link is = subst (IsPlace p) is.names
     (one_of_all (IsPlace p) (targets (record_at p link)) (all_mapped (λ (e : PlanEnd). e.target) (IsPlace p) (record_at p link).ends (whole.there link is.there)) is.at 0 is.within)
 
-named_no_link : (p : Drawing) → IsWholePlan p → (place link : ℕ) → IsLinkOf p place link → is_link (record_at p place).kind ≡ false
+named_no_link : (p : PlanData) → IsWholePlan p → (place link : ℕ) → IsLinkOf p place link → is_link (record_at p place).kind ≡ false
 named_no_link p whole place link is = subst NoLink is.names
     (one_of_all NoLink (targets (record_at p link)) (all_mapped (λ (e : PlanEnd). e.target) NoLink (record_at p link).ends (whole.no_link link is.there)) is.at 0 is.within)
   where
@@ -172,10 +172,10 @@ own_silent n parts a b none =
     (ap₂ (λ (xs ys : List ℕ). xs ++ ys) (class_silent n parts.class a b class.0) (attributes_silent n parts.attributes a b attributes.0)) (extras_silent parts.extras extras.0)
 
 module _ (n : Naming) (r : Report) (sound : IsSoundReport r) where
-  abbrev here : Drawing
+  abbrev here : PlanData
   here = r.first.accepted
 
-  abbrev there : Drawing
+  abbrev there : PlanData
   there = r.second.accepted
 
   differs_here : (i : ℕ) → is_differing r i ≡ true → IsPlace here i × (differs_by (same_of r i) (became_of r i) (parts_at r.parts i) ≡ true)

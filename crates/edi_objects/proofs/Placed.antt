@@ -1,6 +1,6 @@
 -- Places of records.
 use Rattle.std.proofs.Common.{◌≡◌, ◌∙◌, ◌<◌, ℕ, zero, suc, Bool, true, false, cond, List, [], ◌∷◌, ap, arith, eqb, filter, get_or, length, map, subst, take}
-use Rattle.edi_plan.specs.Plans.{Drawing, IsPlace, record_at}
+use Rattle.edi_plan.specs.Plans.{PlanData, IsPlace, record_at}
 use Rattle.edi_plan.specs.Sides.{targets}
 use Rattle.edi_plan.specs.Whole.{IsWholePlan}
 use Rattle.edi_plan.specs.declared.record.PlanEnd.{PlanEnd}
@@ -18,7 +18,7 @@ use Rattle.edi_objects.proofs.AttributeLists.{all_appended, one_of_all, one_of_f
 use Rattle.edi_objects.proofs.Indexed.{naming_total}
 
 -- one of the first few ends of a link is a record
-pub end_there : (p : Drawing) → IsWholePlan p → (link : ℕ) → IsPlace p link → (ends few : List PlanEnd) (n k : ℕ) (e : PlanEnd)
+pub end_there : (p : PlanData) → IsWholePlan p → (link : ℕ) → IsPlace p link → (ends few : List PlanEnd) (n k : ℕ) (e : PlanEnd)
     → ends ≡ (record_at p link).ends → few ≡ take n ends → k < length few → e ≡ get_or few k e → IsPlace p e.target
 end_there p whole link there ends few n k e are is within at =
     let same : few ≡ take n (record_at p link).ends = is ∙ ap (take n) are in
@@ -42,7 +42,7 @@ all_kept P p (x ∷ xs) all = one (p x) (all_kept P p xs all.1)
     one true more = (all.0, more)
     one false more = more
 
-module _ (p : Drawing) where
+module _ (p : PlanData) where
   abbrev IsLinkThere : ℕ × ℕ → Type 0
   IsLinkThere x = IsPlace p x.1
 

@@ -4,7 +4,7 @@ use Rattle.std.specs.List.{flat_map}
 use Rattle.edi_record.specs.declared.record.Kind.{Kind}
 use Rattle.edi_record.specs.declared.record.Kind.TheVariants.{Pno, Par, Pfe, Fea, Lnk}
 use Rattle.edi_plan.specs.Places.{places_of}
-use Rattle.edi_plan.specs.Plans.{Drawing, IsPlace, record_at}
+use Rattle.edi_plan.specs.Plans.{PlanData, IsPlace, record_at}
 use Rattle.edi_plan.proofs.PlaceLemmas.{has_place}
 use Rattle.edi_line.specs.Bytes.{line_feed}
 use Rattle.edi_report.specs.Lines.{charsets_line, totals_line, words_text}
@@ -24,7 +24,7 @@ use Rattle.edi_objects.proofs.TextLines.{both_none, either_said, else_said, if_s
 use Rattle.edi_objects.proofs.WholeTexts.{charsets_whole, elements_whole, first_bare_whole, first_element_whole, first_link_whole, first_links_whole, first_object_whole, objects_whole, own_whole, second_bare_whole, second_element_whole, second_link_whole, second_object_whole, shapes_whole}
 
 -- the lines of the record at a place, among those of the records of its type
-at_place : (f : ℕ → List ℕ) → ((k : ℕ) → AreWholeLines (f k)) → (kind : Kind) (p : Drawing) (k : ℕ) → IsPlace p k → (record_at p k).kind ≡ kind → f k ≢ [] → AreLinesOf (flat_map f (places_of kind p)) (f k)
+at_place : (f : ℕ → List ℕ) → ((k : ℕ) → AreWholeLines (f k)) → (kind : Kind) (p : PlanData) (k : ℕ) → IsPlace p k → (record_at p k).kind ≡ kind → f k ≢ [] → AreLinesOf (flat_map f (places_of kind p)) (f k)
 at_place f whole kind p k there is some =
     let found = has_place kind p k there is in
     subst (λ (x : ℕ). AreLinesOf (flat_map f (places_of kind p)) (f x)) found.2 (lines_at f whole (places_of kind p) found.0 0 found.1 (λ e. some (ap f (sym found.2) ∙ e)))

@@ -4,7 +4,7 @@ use Rattle.std.specs.List.{flat_map, list_any}
 use Rattle.edi_line.specs.Bytes.{line_feed}
 use Rattle.edi_record.specs.declared.record.Kind.TheVariants.{Pno, Par, Pfe, Lnk}
 use Rattle.edi_plan.specs.Places.{places_of}
-use Rattle.edi_plan.specs.Plans.{Drawing, is_object, record_at}
+use Rattle.edi_plan.specs.Plans.{PlanData, is_object, record_at}
 use Rattle.edi_plan.specs.Sides.{targets}
 use Rattle.edi_report.specs.Lines.{both_lines, charsets_line, is_reached, totals_line, words_text}
 use Rattle.edi_report.specs.Reports.{Report, parts_at, site_at}
@@ -21,7 +21,7 @@ pub record Told : Type 0 where
   pub report : Report
 
 -- A link is told where a record stands that it names: an object, or one of which the test holds.
-abbrev pub is_told_beside : (ℕ → Bool) → Drawing → ℕ → Bool
+abbrev pub is_told_beside : (ℕ → Bool) → PlanData → ℕ → Bool
 is_told_beside test p link = list_any (λ k. is_object (record_at p k).kind || test k) (targets (record_at p link))
 
 -- NAME: and what the link names

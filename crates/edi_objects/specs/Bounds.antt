@@ -4,7 +4,7 @@ use Rattle.std.specs.List.{list_any}
 use Rattle.edi_record.specs.declared.record.Kind.{Kind}
 use Rattle.edi_record.specs.declared.record.Kind.TheVariants.{Pno, Par, Pfe, Fea, Lnk}
 use Rattle.edi_schema.specs.declared.role.Role.{Role}
-use Rattle.edi_plan.specs.Plans.{Drawing, record_at}
+use Rattle.edi_plan.specs.Plans.{PlanData, record_at}
 use Rattle.edi_plan.specs.Sides.{targets}
 use Rattle.edi_report.specs.Reports.{Report, parts_at}
 use Rattle.edi_report.specs.declared.parts.Parts.{Parts}
@@ -12,11 +12,11 @@ use Rattle.edi_objects.specs.Differing.{arrives, became_of, bounds_type, is_diff
 use Rattle.edi_objects.specs.LinksOf.{entries_of, index_of}
 
 -- a link bounds the record at a place, and the test holds of the link
-abbrev pub bounds_and : (ℕ → Bool) → Drawing → ℕ → ℕ → Bool
+abbrev pub bounds_and : (ℕ → Bool) → PlanData → ℕ → ℕ → Bool
 bounds_and test p place link = bounds_type (record_at p link).role (record_at p place).kind && test link
 
 -- of how many links that bound the record at a place the test holds
-abbrev pub bounds_count : (ℕ → Bool) → Drawing → ℕ → ℕ
+abbrev pub bounds_count : (ℕ → Bool) → PlanData → ℕ → ℕ
 bounds_count test p place = count_by (λ named. bounds_and test p place named.1) (entries_of (index_of p) place)
 
 -- a link of the first sheet is gone, or got other ends
@@ -36,7 +36,7 @@ bounds_with role Fea = false
 bounds_with role Lnk = false
 
 -- a link of the first sheet is not lost, and it differs, or a record by which it bounds
-abbrev pub bends : (ℕ → Bool) → Drawing → ℕ → ℕ → Bool
+abbrev pub bends : (ℕ → Bool) → PlanData → ℕ → ℕ → Bool
 bends test p link k = bounds_with (record_at p link).role (record_at p k).kind && test k
 
 abbrev pub is_bent : Report → ℕ → Bool

@@ -4,7 +4,7 @@ use Rattle.std.specs.List.{flat_map, range_with_len}
 use Rattle.edi_line.specs.Bytes.{line_feed}
 use Rattle.edi_record.specs.declared.record.Kind.TheVariants.{Fea}
 use Rattle.edi_plan.specs.Places.{places_of}
-use Rattle.edi_plan.specs.Plans.{Drawing, record_at}
+use Rattle.edi_plan.specs.Plans.{PlanData, record_at}
 use Rattle.edi_report.specs.Lines.{counted, is_none, is_reached}
 use Rattle.edi_report.specs.Reports.{Report}
 use Rattle.edi_objects.specs.Differing.{became_of}
@@ -12,7 +12,7 @@ use Rattle.edi_objects.specs.Names.{Naming, shown_class}
 use Rattle.edi_objects.specs.Objects.{object_lines}
 
 -- the class of the record at a place, where something holds of it
-abbrev pub class_if : Bool → Drawing → ℕ → List ℕ
+abbrev pub class_if : Bool → PlanData → ℕ → List ℕ
 class_if holds p k = if holds then (record_at p k).class ∷ [] else []
 
 -- the class of an object of the first sheet, if it is gone; and of one of the second, if it is new

@@ -5,7 +5,7 @@ use Rattle.edi_record.specs.declared.record.Kind.{Kind}
 use Rattle.edi_record.specs.declared.record.Kind.TheVariants.{Pno, Par, Pfe, Fea, Lnk}
 use Rattle.edi_schema.specs.declared.role.Role.{Role}
 use Rattle.edi_schema.specs.declared.role.Role.TheVariants.{Initial, Final, Left, Right, Plain}
-use Rattle.edi_plan.specs.Plans.{Drawing, record_at}
+use Rattle.edi_plan.specs.Plans.{PlanData, record_at}
 use Rattle.edi_plan.specs.Sides.{targets}
 use Rattle.edi_report.specs.Lines.{is_reached, some_differ, went_to}
 use Rattle.edi_report.specs.Reports.{Report, parts_at}
@@ -67,11 +67,11 @@ bounds_type role Fea = false
 bounds_type role Lnk = false
 
 -- a link bounds the record at a place, and the test holds of the link or of a record that it names
-abbrev pub bounds_anew : (ℕ → Bool) → Drawing → ℕ → ℕ → Bool
+abbrev pub bounds_anew : (ℕ → Bool) → PlanData → ℕ → ℕ → Bool
 bounds_anew test p place link =
     bounds_type (record_at p link).role (record_at p place).kind
     && (test link || list_any test (targets (record_at p link)))
 
 -- the outline of the record at a place differs: the record itself, a link that bounds it, or what such a link names
-abbrev pub outline_differs : (ℕ → Bool) → Drawing → ℕ → Bool
+abbrev pub outline_differs : (ℕ → Bool) → PlanData → ℕ → Bool
 outline_differs test p place = test place || list_any (bounds_anew test p place) (links_of p place)

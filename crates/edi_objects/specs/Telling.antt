@@ -3,7 +3,7 @@ use Rattle.std.specs.Prelude.{◌≡◌, ◌≢◌, ◌⊎◌, ◌<◌, ℕ, tru
 use Rattle.edi_line.specs.Bytes.{line_feed}
 use Rattle.edi_record.specs.declared.record.Kind.{Kind}
 use Rattle.edi_record.specs.declared.record.Kind.TheVariants.{Pno, Par, Pfe, Fea, Lnk}
-use Rattle.edi_plan.specs.Plans.{Drawing, IsPlace, record_at}
+use Rattle.edi_plan.specs.Plans.{PlanData, IsPlace, record_at}
 use Rattle.edi_plan.specs.Sides.{targets}
 use Rattle.edi_plan.specs.Whole.{IsWholePlan}
 use Rattle.edi_plan.specs.declared.record.PlanRecord.{PlanRecord}
@@ -39,7 +39,7 @@ pub record AreLinesOf (text lines : List ℕ) : Type 0 where
 -- ---- what links name, and what a report says
 
 -- the link names the record at this place
-pub record IsLinkOf (p : Drawing) (place link : ℕ) : Type 0 where
+pub record IsLinkOf (p : PlanData) (place link : ℕ) : Type 0 where
   pub there : IsPlace p link
   pub kind : (record_at p link).kind ≡ Lnk
   pub at : ℕ

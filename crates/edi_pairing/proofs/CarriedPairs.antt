@@ -2,7 +2,7 @@
 use Rattle.std.proofs.Common.{◌≡◌, ℕ, ◌<◌, List, length, get_or, sym, ap, ◌∙◌, arith}
 use Rattle.std.proofs.lemmas.List.{length-map}
 use Rattle.edi_schema.specs.Classes.{Classes}
-use Rattle.edi_plan.specs.Plans.{Drawing, blank, record_at}
+use Rattle.edi_plan.specs.Plans.{PlanData, blank, record_at}
 use Rattle.edi_plan.specs.PlanOf.{StatesPlanRecord}
 use Rattle.edi_plan.proofs.Built.{zip_back, zip_length}
 use Rattle.edi_compare.specs.Pairings.{PairingCarries}
@@ -14,7 +14,7 @@ use Rattle.edi_pairing.specs.PairingText.{IsPairing}
 use Rattle.edi_pairing.specs.declared.names.RecordName.{RecordName}
 use Rattle.edi_pairing.proofs.NameLemmas.{record_there, kind_there}
 
-module _ (s : Classes) (b : List ℕ) (names : List RecordName) (p : Drawing) (are : AreNamesOf b names) (plan : IsPlanOfFile s b p) where
+module _ (s : Classes) (b : List ℕ) (names : List RecordName) (p : PlanData) (are : AreNamesOf b names) (plan : IsPlanOfFile s b p) where
   one_sheet : names ≡ names_of plan.0.list
   one_sheet = are.2 ∙ ap names_of (reading_is_one.sheets b are.0 plan.0 are.1 plan.1).1
 
@@ -28,7 +28,7 @@ module _ (s : Classes) (b : List ℕ) (names : List RecordName) (p : Drawing) (a
       let stated = (zip_back (StatesPlanRecord s plan.0.list) plan.0.list p.list plan.2.each k r.0 blank r.1).1 in
       ap (λ ns. (name_at ns k).kind) one_sheet ∙ (kind_there plan.0.list k r.0 r.1 ∙ sym stated.kind)
 
-pub carried_pairs : (s : Classes) (a b : List ℕ) (names others : List RecordName) (p q : Drawing) (pairing : Pairing) → AreNamesOf a names → AreNamesOf b others → IsPlanOfFile s a p → IsPlanOfFile s b q
+pub carried_pairs : (s : Classes) (a b : List ℕ) (names others : List RecordName) (p q : PlanData) (pairing : Pairing) → AreNamesOf a names → AreNamesOf b others → IsPlanOfFile s a p → IsPlanOfFile s b q
     → PairingCarries s p q pairing → IsPairing names others pairing
 carried_pairs s a b names others p q pairing are are' plan plan' h =
     let long = names_long s a names p are plan in

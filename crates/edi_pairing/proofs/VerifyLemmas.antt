@@ -4,7 +4,7 @@ use Rattle.edi_schema.specs.Classes.{Classes}
 use Rattle.edi_compare.specs.Refused.{IsPairRefusal}
 use Rattle.edi_compare.specs.Rules.{IsAccepted}
 use Rattle.edi_compare.specs.Uncarried.{IsUncarriedBy}
-use Rattle.edi_plan.specs.Plans.{Drawing}
+use Rattle.edi_plan.specs.Plans.{PlanData}
 use Rattle.edi_compare.specs.declared.pairing.Pairing.{Pairing}
 use Rattle.edi_compare.specs.declared.uncarried.Uncarried.{Uncarried}
 use Rattle.edi_compare.specs.declared.uncarried.Uncarried.TheVariants.{Entries, CharacterSets, Record, Unmet}
@@ -31,7 +31,7 @@ sheets_refusal s a b file (sheets.First f) h = h
 sheets_refusal s a b file (sheets.Second f) h = h
 
 -- why a pairing doesn't carry, with the names of its records, says so of the names
-module _ (s : Classes) (p q : Drawing) (a b : List RecordName) (pairing : Pairing) (unpaired : Unpaired) where
+module _ (s : Classes) (p q : PlanData) (a b : List RecordName) (pairing : Pairing) (unpaired : Unpaired) where
   pub unpaired_by : (why : Uncarried) → IsUncarriedBy s p q pairing why → IsNamed a b pairing why unpaired → IsUnpairedBy s p q a b pairing unpaired
   unpaired_by Entries is named = absurd named
   unpaired_by CharacterSets is named = subst (IsUnpairedBy s p q a b pairing) (sym named) is

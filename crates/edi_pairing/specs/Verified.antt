@@ -1,7 +1,7 @@
 -- Whether a file states a pairing that carries one sheet's plan onto another's.
 use Rattle.std.specs.Prelude.{◌≡◌, ℕ, ◌+◌, List, slice_index, ⊤}
 use Rattle.edi_schema.specs.Classes.{Classes}
-use Rattle.edi_plan.specs.Plans.{Drawing}
+use Rattle.edi_plan.specs.Plans.{PlanData}
 use Rattle.edi_compare.specs.Pairings.{PairingCarries}
 use Rattle.edi_compare.specs.PlanOfFile.{IsPlanOfFile}
 use Rattle.edi_compare.specs.Refused.{IsProper, IsRefusal}
@@ -53,7 +53,7 @@ pair_at a b pairing i = record { at = i + 2; name = name_at a i; partner = name_
 
 -- ---- the plans of two sheets, the names of their records, and a pairing
 
-module _ (s : Classes) (p q : Drawing) (a b : List RecordName) (pairing : Pairing) where
+module _ (s : Classes) (p q : PlanData) (a b : List RecordName) (pairing : Pairing) where
   -- why it doesn't carry, by names
   abbrev pub IsUnpairedBy : Unpaired → Type 0
   IsUnpairedBy CharacterSets = IsUncarriedBy s p q pairing uncarried.CharacterSets
@@ -71,8 +71,8 @@ module _ (s : Classes) (p q : Drawing) (a b : List RecordName) (pairing : Pairin
 -- the file states a pairing of the two sheets, and the answer is whether it carries the first plan onto the second, or
 -- why it doesn't
 pub record IsVerified (s : Classes) (a b file : List ℕ) (answer : Verified) : Type 0 where
-  pub plan : Drawing
-  pub other : Drawing
+  pub plan : PlanData
+  pub other : PlanData
   pub pairing : Pairing
   pub is_plan : IsPlanOfFile s a plan
   pub is_other : IsPlanOfFile s b other

@@ -7,7 +7,7 @@ ghost use Rattle.edi_pairing.specs.NamedSheets.{IsNamedSheet};
 
 use crate::names::RecordNames;
 use crate::taken::TakenNames;
-use edi_compare::{Accepted, CompareFault, Fault, accept_beside, first_refused, second_refused};
+use edi_compare::{Accepted, CompareFault, Fault, accept_with, first_refused, second_refused};
 use edi_line::FileBytes;
 use edi_schema::Schema;
 use std::alloc::Global;
@@ -35,7 +35,7 @@ pub fn name_sheet(alloc: Global, schema: &Schema, bytes: FileBytes<'_>) -> Resul
     ensures refusal { IfErr result (IsRefusal schema.now (file_bytes bytes.entry)) }
 {
     bytes.keeps();
-    let (accepted, taken) = accept_beside(alloc, schema, bytes, TakenNames::new(alloc))?;
+    let (accepted, taken) = accept_with(alloc, schema, bytes, TakenNames::new(alloc))?;
     let names = RecordNames::of(taken.into_vec());
     Ok(NamedSheet { accepted, names })
 }

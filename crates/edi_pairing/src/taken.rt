@@ -1,7 +1,7 @@
 //! The names of a sheet's records, taken while the sheet is read.
 
 ghost use Rattle.std.specs.Prelude.{◌≡◌, []};
-ghost use Rattle.edi_line.specs.Entry.{entries};
+ghost use Rattle.edi_line.specs.ZoneData.{entries};
 ghost use Rattle.edi_pairing.specs.inner.Taken.{HasTaken, taken_kind, taken_rid};
 
 use crate::names::RecordName;

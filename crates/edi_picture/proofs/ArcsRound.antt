@@ -9,13 +9,13 @@ use Rattle.std.specs.Global.{Vec}
 use Rattle.edi_schema.specs.declared.role.Role.{Role}
 use Rattle.edi_schema.specs.declared.role.Role.TheVariants.{Left, Right, Plain}
 use Rattle.edi_plan.specs.Joined.{IsJoined}
-use Rattle.edi_plan.specs.Plans.{Drawing, IsPlace}
+use Rattle.edi_plan.specs.Plans.{PlanData, IsPlace}
 use Rattle.edi_plan.specs.Sides.{IsSideIfAny}
 use Rattle.edi_picture.specs.Faces.{bounds, is_beside}
 use Rattle.edi_picture.specs.inner.Rounds.{HaveArcs, is_face}
 use Rattle.edi_picture.proofs.Beside.{beside_none, beside_some}
 
-face_is : (p : Drawing) → IsJoined p → (role : Role) (a k : ℕ) (found : Option ℕ) → IsPlace p a → role ≢ Plain → IsSideIfAny p a role found → is_face k found ≡ is_beside p role a k
+face_is : (p : PlanData) → IsJoined p → (role : Role) (a k : ℕ) (found : Option ℕ) → IsPlace p a → role ≢ Plain → IsSideIfAny p a role found → is_face k found ≡ is_beside p role a k
 face_is p joined role a k None there proper none = beside_none p role a k there proper none
 face_is p joined role a k (Some x) there proper side = beside_some p joined role a k x proper side
 
@@ -29,13 +29,13 @@ right_proper e = cc
 abbrev one_alone : Bool → Bool → Bool
 one_alone left right = if left then not right else right
 
-bounds_is : (p : Drawing) → IsJoined p → (a k : ℕ) (left right : Option ℕ) → IsPlace p a → IsSideIfAny p a Left left → IsSideIfAny p a Right right
+bounds_is : (p : PlanData) → IsJoined p → (a k : ℕ) (left right : Option ℕ) → IsPlace p a → IsSideIfAny p a Left left → IsSideIfAny p a Right right
     → bounds p k a ≡ one_alone (is_face k left) (is_face k right)
 bounds_is p joined a k left right there one other =
     ap (λ b. one_alone b (is_beside p Right a k)) (sym (face_is p joined Left a k left there left_proper one))
     ∙ ap (one_alone (is_face k left)) (sym (face_is p joined Right a k right there right_proper other))
 
-filtered_more : (p : Drawing) (arcs : List ℕ) (a k : ℕ) (b : Bool) → bounds p k a ≡ b → filter (bounds p k) (arcs ++ a ∷ []) ≡ filter (bounds p k) arcs ++ (if b then a ∷ [] else [])
+filtered_more : (p : PlanData) (arcs : List ℕ) (a k : ℕ) (b : Bool) → bounds p k a ≡ b → filter (bounds p k) (arcs ++ a ∷ []) ≡ filter (bounds p k) arcs ++ (if b then a ∷ [] else [])
 filtered_more p arcs a k b e = filter-append (bounds p k) arcs (a ∷ []) ∙ ap (λ t. filter (bounds p k) arcs ++ (if t then a ∷ [] else [])) e
 
 -- the face on both sides, or on none
@@ -47,7 +47,7 @@ append_none : (xs : List ℕ) → xs ++ [] ≡ xs
 append_none [] = refl
 append_none (x ∷ xs) = ap (λ ys. x ∷ ys) (append_none xs)
 
-pub more_none : (p : Drawing) → IsJoined p → (a : ℕ) (left right : Option ℕ) → IsPlace p a → IsSideIfAny p a Left left → IsSideIfAny p a Right right → left ≡ right
+pub more_none : (p : PlanData) → IsJoined p → (a : ℕ) (left right : Option ℕ) → IsPlace p a → IsSideIfAny p a Left left → IsSideIfAny p a Right right → left ≡ right
     → (lists : List (Vec ℕ)) (arcs : List ℕ) → HaveArcs p arcs lists → HaveArcs p (arcs ++ a ∷ []) lists
 more_none p joined a left right there one other same lists arcs h = record {
   long = h.long;
@@ -67,7 +67,7 @@ joined_one old a true false apart = append_none (old ++ a ∷ [])
 joined_one old a false true apart = ap (λ xs. xs ++ a ∷ []) (append_none old)
 joined_one old a false false apart = append_none (old ++ [])
 
-pub more_two : (p : Drawing) → IsJoined p → (a : ℕ) (left right : Option ℕ) → IsPlace p a → IsSideIfAny p a Left left → IsSideIfAny p a Right right → (left ≡ right → ⊥)
+pub more_two : (p : PlanData) → IsJoined p → (a : ℕ) (left right : Option ℕ) → IsPlace p a → IsSideIfAny p a Left left → IsSideIfAny p a Right right → (left ≡ right → ⊥)
     → (lists mid new : List (Vec ℕ)) → length mid ≡ length lists → length new ≡ length mid
     → ((k : ℕ) → k < length lists → get_or (map (λ (v : Vec ℕ). v.items) mid) k [] ≡ get_or (map (λ (v : Vec ℕ). v.items) lists) k [] ++ (if is_face k left then a ∷ [] else []))
     → ((k : ℕ) → k < length mid → get_or (map (λ (v : Vec ℕ). v.items) new) k [] ≡ get_or (map (λ (v : Vec ℕ). v.items) mid) k [] ++ (if is_face k right then a ∷ [] else []))

@@ -11,7 +11,7 @@ use Rattle.edi_schema.specs.declared.role.Role.{Role}
 use Rattle.edi_schema.specs.declared.role.Role.TheVariants.{Initial, Final, Left, Right, Plain}
 use Rattle.edi_plan.specs.Joined.{HasEnds, IsJoin, IsJoined}
 use Rattle.edi_record.specs.Records.{is_link}
-use Rattle.edi_plan.specs.Plans.{Drawing, IsPlace, blank, is_arc, record_at}
+use Rattle.edi_plan.specs.Plans.{PlanData, IsPlace, blank, is_arc, record_at}
 use Rattle.edi_plan.specs.Sides.{Side, targets}
 use Rattle.edi_plan.specs.declared.record.PlanRecord.{PlanRecord}
 use Rattle.edi_picture.specs.Faces.{are_two, is_beside, links}
@@ -25,7 +25,7 @@ no_plain Left h = refl
 no_plain Right h = refl
 no_plain Plain h = absurd (h refl)
 
-join_of : (p : Drawing) (a x : ℕ) (role : Role) (s : Side p a role x) → IsJoin p s.link
+join_of : (p : PlanData) (a x : ℕ) (role : Role) (s : Side p a role x) → IsJoin p s.link
 join_of p a x role s = record { there = s.there; is_link = s.is_link; not_plain = ap is_plain s.has_role ∙ no_plain role s.not_plain }
 
 other_end : (a x y : ℕ) (xs : List ℕ) → (xs ≡ a ∷ x ∷ []) ⊎ (xs ≡ x ∷ a ∷ []) → (xs ≡ a ∷ y ∷ []) ⊎ (xs ≡ y ∷ a ∷ []) → x ≡ y
@@ -34,7 +34,7 @@ other_end a x y xs (inl e) (inr f) = cc
 other_end a x y xs (inr e) (inl f) = cc
 other_end a x y xs (inr e) (inr f) = cc
 
-one_side : (p : Drawing) → IsJoined p → (a x y : ℕ) (role : Role) → Side p a role x → Side p a role y → x ≡ y
+one_side : (p : PlanData) → IsJoined p → (a x y : ℕ) (role : Role) → Side p a role x → Side p a role y → x ≡ y
 one_side p joined a x y role s t =
     let same : s.link ≡ t.link = joined.one_side s.link t.link a x y (join_of p a x role s) (join_of p a y role t) (s.has_role ∙ sym t.has_role) s.is_arc s.ends t.ends in
     other_end a x y (targets (record_at p t.link)) (subst (λ k. HasEnds p k a x) same s.ends) t.ends
@@ -104,7 +104,7 @@ link_tested role a k r link is ends =
     (and_true (same_role r.role role) (are_two a k (targets r)) (ap (λ (o : Role). same_role o role) is ∙ itself role) (two_tested a k (targets r) ends))
 
 -- the test of a picture, and what an arc has by a role
-pub tested : (p : Drawing) (role : Role) (a k : ℕ) → Side p a role k → is_beside p role a k ≡ true
+pub tested : (p : PlanData) (role : Role) (a k : ℕ) → Side p a role k → is_beside p role a k ≡ true
 tested p role a k s =
     and_true (is_arc (record_at p a).kind) (list_any (links role a k) p.list) (ap is_arc s.is_arc)
     (list_any_at (links role a k) p.list s.link blank s.there (link_tested role a k (record_at p s.link) s.is_link s.has_role s.ends))
@@ -125,7 +125,7 @@ found_at f (r ∷ rs) e = go (either (f r) (list_any f rs) e) (found_at f rs)
     go (inl h) later = (0, omega arith, h)
     go (inr h) later = let rest = later h in (suc rest.0, omega (arith, rest.1), rest.2)
 
-pub said : (p : Drawing) (role : Role) (a k : ℕ) → IsPlace p a → role ≢ Plain → is_beside p role a k ≡ true → Side p a role k
+pub said : (p : PlanData) (role : Role) (a k : ℕ) → IsPlace p a → role ≢ Plain → is_beside p role a k ≡ true → Side p a role k
 said p role a k there proper e =
     let parts = both (is_arc (record_at p a).kind) (list_any (links role a k) p.list) e in
     let found = found_at (links role a k) p.list parts.1 in
@@ -146,7 +146,7 @@ no_case true h = absurd (h refl)
 no_case false h = refl
 
 -- what an arc has by a role is what the test finds
-pub beside_some : (p : Drawing) → IsJoined p → (role : Role) (a k x : ℕ) → role ≢ Plain → Side p a role x → (x == k) ≡ is_beside p role a k
+pub beside_some : (p : PlanData) → IsJoined p → (role : Role) (a k x : ℕ) → role ≢ Plain → Side p a role x → (x == k) ≡ is_beside p role a k
 beside_some p joined role a k x proper s = go (x == k) refl
   where
     go : (b : Bool) → (x == k) ≡ b → (x == k) ≡ is_beside p role a k
@@ -154,5 +154,5 @@ beside_some p joined role a k x proper s = go (x == k) refl
     go false e =
         e ∙ sym (no_case (is_beside p role a k) (λ h. eqb-false x k e (one_side p joined a x k role s (said p role a k s.arc_there proper h))))
 
-pub beside_none : (p : Drawing) (role : Role) (a k : ℕ) → IsPlace p a → role ≢ Plain → ((x : ℕ) → ¬ (Side p a role x)) → false ≡ is_beside p role a k
+pub beside_none : (p : PlanData) (role : Role) (a k : ℕ) → IsPlace p a → role ≢ Plain → ((x : ℕ) → ¬ (Side p a role x)) → false ≡ is_beside p role a k
 beside_none p role a k there proper none = sym (no_case (is_beside p role a k) (λ h. none k (said p role a k there proper h)))

@@ -6,7 +6,7 @@ use Rattle.edi_record.specs.declared.record.Kind.TheVariants.{Par}
 use Rattle.edi_picture.specs.Faces.{arcs_round, bounds}
 use Rattle.edi_record.specs.declared.record.Kind.{Kind}
 use Rattle.edi_plan.specs.Places.{places_of}
-use Rattle.edi_plan.specs.Plans.{Drawing, IsPlace}
+use Rattle.edi_plan.specs.Plans.{PlanData, IsPlace}
 use Rattle.edi_plan.proofs.PlaceLemmas.{place_there}
 
 pub joined2 : (old a b t u : List ℕ) → t ≡ old ++ a → u ≡ t ++ b → u ≡ old ++ (a ++ b)
@@ -26,12 +26,12 @@ pub joined6 : (old a b c d e f t u v w x y : List ℕ) → t ≡ old ++ a → u 
 joined6 old a b c d e f t u v w x y one two three four five six = joined2 old (a ++ b ++ c ++ d ++ e) f x y (joined5 old a b c d e t u v w x one two three four five) six
 
 -- the places of a type are places
-pub places_there : (kind : Kind) (p : Drawing) (places : List ℕ) (k : ℕ) → places ≡ places_of kind p → k < length places → IsPlace p (get_or places k 0)
+pub places_there : (kind : Kind) (p : PlanData) (places : List ℕ) (k : ℕ) → places ≡ places_of kind p → k < length places → IsPlace p (get_or places k 0)
 places_there kind p places k is less =
     subst (λ (ps : List ℕ). IsPlace p (get_or ps k 0)) (sym is) (place_there kind p k (subst (λ (ps : List ℕ). k < length ps) is less))
 
 -- all arcs round a face are places
-pub round_there : (p : Drawing) (k : ℕ) (arcs : List ℕ) → arcs ≡ arcs_round p k → All (IsPlace p) arcs
+pub round_there : (p : PlanData) (k : ℕ) (arcs : List ℕ) → arcs ≡ arcs_round p k → All (IsPlace p) arcs
 round_there p k arcs is =
     subst (All (IsPlace p)) (sym is) (All-filter (bounds p k) (IsPlace p) (places_of Par p) (All-from_get_or (IsPlace p) (places_of Par p) 0 (place_there Par p)))
 

@@ -9,7 +9,7 @@ use Rattle.edi_schema.specs.declared.role.Role.{Role}
 use Rattle.edi_schema.specs.declared.role.Role.TheVariants.{Left, Right}
 use Rattle.edi_plan.specs.Places.{places_of}
 use Rattle.edi_record.specs.Records.{is_link}
-use Rattle.edi_plan.specs.Plans.{Drawing, is_arc, record_at}
+use Rattle.edi_plan.specs.Plans.{PlanData, is_arc, record_at}
 use Rattle.edi_plan.specs.Sides.{targets}
 use Rattle.edi_plan.specs.declared.record.PlanRecord.{PlanRecord}
 use Rattle.edi_plan.specs.declared.extent.Extent.{Extent}
@@ -34,15 +34,15 @@ abbrev pub links : Role → ℕ → ℕ → PlanRecord → Bool
 links role a k r = is_link r.kind && (same_role r.role role && are_two a k (targets r))
 
 -- the arc at the place a has the face at the place k on this side: some link of that role has the two ends
-abbrev pub is_beside : Drawing → Role → ℕ → ℕ → Bool
+abbrev pub is_beside : PlanData → Role → ℕ → ℕ → Bool
 is_beside p role a k = is_arc (record_at p a).kind && list_any (links role a k) p.list
 
 -- the arc has the face on one of its sides, and not on both
-abbrev pub bounds : Drawing → ℕ → ℕ → Bool
+abbrev pub bounds : PlanData → ℕ → ℕ → Bool
 bounds p k a = if is_beside p Left a k then not (is_beside p Right a k) else is_beside p Right a k
 
 -- the arcs round a face, in file order
-abbrev pub arcs_round : Drawing → ℕ → List ℕ
+abbrev pub arcs_round : PlanData → ℕ → List ℕ
 arcs_round p k = filter (bounds p k) (places_of Par p)
 
 -- ---- whether they close
@@ -52,7 +52,7 @@ abbrev pub tips : List Point → List Point
 tips points = take 1 points ++ drop (length points - 1) points
 
 -- the ends of some arcs
-abbrev pub ends_of : Drawing → List ℕ → List Point
+abbrev pub ends_of : PlanData → List ℕ → List Point
 ends_of p arcs = flat_map (λ a. tips (record_at p a).points) arcs
 
 -- two points have one x and one y

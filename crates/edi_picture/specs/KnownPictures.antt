@@ -5,7 +5,7 @@ use Rattle.edi_record.specs.declared.record.Point.{Point}
 use Rattle.edi_schema.specs.Classes.{Classes}
 use Rattle.edi_schema.specs.declared.role.Role.{Role}
 use Rattle.edi_schema.specs.declared.role.Role.TheVariants.{Plain, Initial, Final, Left, Right}
-use Rattle.edi_plan.specs.Plans.{Drawing}
+use Rattle.edi_plan.specs.Plans.{PlanData}
 use Rattle.edi_plan.specs.declared.record.PlanRecord.{PlanRecord}
 use Rattle.edi_picture.specs.Known.{known_point, named_class, pointed_record}
 use Rattle.edi_picture.specs.Pictures.{IsPicture}
@@ -45,7 +45,7 @@ abbrev pub corners : List Point
 corners = first_corner ∷ known_point 4000000 2000000 ∷ known_point 4000000 6500000 ∷ first_corner ∷ []
 
 -- the three, and then the links of the arc to its initial node, its final node and the face
-abbrev pub triangle_plan : Drawing
+abbrev pub triangle_plan : PlanData
 triangle_plan = record {
   cse = None;
   list = pointed_record Pno 2 (first_corner ∷ []) ∷ pointed_record Par 0 corners ∷ pointed_record Pfe 1 []

@@ -4,7 +4,7 @@ use Rattle.std.specs.List.{flat_map}
 use Rattle.edi_record.specs.declared.record.Kind.TheVariants.{Pfe}
 use Rattle.edi_record.specs.declared.record.Point.{Point}
 use Rattle.edi_plan.specs.Places.{places_of}
-use Rattle.edi_plan.specs.Plans.{Drawing, record_at}
+use Rattle.edi_plan.specs.Plans.{PlanData, record_at}
 use Rattle.edi_plan.specs.declared.extent.Extent.{Extent}
 use Rattle.edi_picture.specs.Faces.{arcs_round}
 use Rattle.edi_picture.specs.Frames.{distance, pixel}
@@ -14,7 +14,7 @@ use Rattle.edi_picture.specs.Sheets.{Sheet, label_at, mark_at}
 use Rattle.edi_picture.specs.Titles.{escaped_text}
 
 -- the points of the arcs round a face
-abbrev pub points_round : Drawing → ℕ → List Point
+abbrev pub points_round : PlanData → ℕ → List Point
 points_round p k = flat_map (λ a. (record_at p a).points) (arcs_round p k)
 
 -- the middle between two numbers

@@ -8,14 +8,14 @@ use Rattle.edi_schema.specs.Classes.{Classes, class_name_at}
 use Rattle.edi_plan.specs.Agreeing.{HasClasses}
 use Rattle.edi_plan.specs.Extents.{points_of}
 use Rattle.edi_plan.specs.Places.{places_of}
-use Rattle.edi_plan.specs.Plans.{Drawing, record_at}
+use Rattle.edi_plan.specs.Plans.{PlanData, record_at}
 use Rattle.edi_picture.specs.declared.mark.Mark.{Mark}
 use Rattle.edi_picture.specs.declared.mark.Mark.TheVariants.{Hidden}
 
 -- a plan and the name of its file; and of each record the identifier, the mark, whether it is tinted if it is a face,
 -- and what is written on it then
 pub record Sheet : Type 0 where
-  pub plan : Drawing
+  pub plan : PlanData
   pub name : List ℕ
   pub identifiers : List (List ℕ)
   pub marks : List Mark
@@ -43,7 +43,7 @@ class_name s class = unwrap_or (class_name_at s class) (record { rty = []; rid =
 abbrev pub all_points : List Sheet → List Point
 all_points sheets = flat_map (λ sheet. points_of sheet.plan) sheets
 
-abbrev pub arc_points_of : Drawing → List Point
+abbrev pub arc_points_of : PlanData → List Point
 arc_points_of p = flat_map (λ k. (record_at p k).points) (places_of Par p)
 
 abbrev pub arc_points : List Sheet → List Point

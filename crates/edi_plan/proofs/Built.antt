@@ -28,7 +28,7 @@ use Rattle.edi_schema.specs.Roles.{is_plain}
 use Rattle.edi_schema.specs.declared.role.Role.{Role}
 use Rattle.edi_schema.specs.declared.role.Role.TheVariants.{Initial, Final, Left, Right, Plain}
 use Rattle.edi_schema.specs.declared.class.Class.{Class}
-use Rattle.edi_plan.specs.Plans.{Drawing, IsPlace, record_at, blank, is_arc}
+use Rattle.edi_plan.specs.Plans.{PlanData, IsPlace, record_at, blank, is_arc}
 use Rattle.edi_plan.specs.Whole.{IsWholePlan}
 use Rattle.edi_plan.specs.PlanOf.{place_named, StatesPlanAttribute, StatesPlanEnd, StatesPlanRecord, IsPlanOf}
 use Rattle.edi_plan.specs.ReferenceRules.{BreaksReferenceRule, Names, JoinsArcTo}
@@ -165,7 +165,7 @@ record_agrees s list r p st = record {
   attributes = zip_weaker (StatesPlanAttribute s) (AttributeAgrees s) (attribute_agrees s) r.attributes p.attributes st.attributes;
 }
 
-pub plans_agreeing : (s : Classes) (sheet : Sheet) (p : Drawing) → IsPlanOf s sheet p → Agrees s p
+pub plans_agreeing : (s : Classes) (sheet : Sheet) (p : PlanData) → IsPlanOf s sheet p → Agrees s p
 plans_agreeing s sheet p is = zip_weaker (StatesPlanRecord s sheet.list) (RecordAgrees s) (record_agrees s sheet.list) sheet.list p.list is.each
 
 -- the plan of a sheet is one
@@ -194,7 +194,7 @@ one_record s list r p q h g =
     let e = zip_one (StatesPlanEnd list) (StatesPlanEnd list) (one_end list) r.ends p.ends q.ends h.ends g.ends in
     λ i. record { kind = k i; class = c i; role = o i; points = x i; attributes = a i; extras = f i; ends = e i }
 
-pub one_plan_of : (s : Classes) (sheet other : Sheet) (p q : Drawing) → sheet.cse ≡ other.cse → sheet.list ≡ other.list → IsPlanOf s sheet p → IsPlanOf s other q → p ≡ q
+pub one_plan_of : (s : Classes) (sheet other : Sheet) (p q : PlanData) → sheet.cse ≡ other.cse → sheet.list ≡ other.list → IsPlanOf s sheet p → IsPlanOf s other q → p ≡ q
 one_plan_of s sheet other p q set list h g =
     let c = h.set ∙ (set ∙ sym g.set) in
     let there : AllZip (StatesPlanRecord s sheet.list) sheet.list q.list = subst (λ l. AllZip (StatesPlanRecord s l) l q.list) (sym list) g.each in
@@ -203,7 +203,7 @@ one_plan_of s sheet other p q set list h g =
 
 -- each end is there
 
-module _ (s : Classes) (sheet : Sheet) (p : Drawing) (is : IsPlanOf s sheet p) where
+module _ (s : Classes) (sheet : Sheet) (p : PlanData) (is : IsPlanOf s sheet p) where
   long : length sheet.list ≡ length p.list
   long = zip_length (StatesPlanRecord s sheet.list) sheet.list p.list is.each
 

@@ -14,7 +14,7 @@ use Rattle.edi_schema.specs.declared.role.Role.{Role}
 use Rattle.edi_schema.specs.declared.role.Role.TheVariants.{Initial, Final, Left, Right, Plain}
 use Rattle.edi_plan.specs.Joined.{beside, HasEnds, JoinsArc, IsJoin, IsJoined}
 use Rattle.edi_plan.specs.PlanOf.{IsPlanOf, StatesPlanEnd, StatesPlanRecord}
-use Rattle.edi_plan.specs.Plans.{Drawing, IsPlace, record_at, blank, same_kind, kind_rank}
+use Rattle.edi_plan.specs.Plans.{PlanData, IsPlace, record_at, blank, same_kind, kind_rank}
 use Rattle.edi_plan.specs.ReferenceRules.{IsRecordAt, BreaksReferenceRule, Names, JoinsArcTo}
 use Rattle.edi_plan.specs.ReferenceRules.BreaksReferenceRule.{joins_wrong, repeats_side}
 use Rattle.edi_plan.specs.Sides.{targets}
@@ -36,7 +36,7 @@ kind_same a b h = one_kind a b (eqb-true (kind_rank a) (kind_rank b) h)
 same_true : (a b : Kind) → a ≡ b → same_kind a b ≡ true
 same_true a b e = eq-eqb (kind_rank a) (kind_rank b) (ap kind_rank e)
 
-module _ (s : Classes) (sheet : Sheet) (p : Drawing) (is : IsPlanOf s sheet p) (hold : IsUnbroken (BreaksReferenceRule s sheet.list)) where
+module _ (s : Classes) (sheet : Sheet) (p : PlanData) (is : IsPlanOf s sheet p) (hold : IsUnbroken (BreaksReferenceRule s sheet.list)) where
   stated : (k : ℕ) → IsPlace p k → (r : Record) × (slice_get sheet.list k ≡ Some r) × StatesPlanRecord s sheet.list r (record_at p k)
   stated k h = zip_at (StatesPlanRecord s sheet.list) sheet.list p.list is.each k blank h
 

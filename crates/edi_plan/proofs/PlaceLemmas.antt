@@ -2,7 +2,7 @@
 use Rattle.std.proofs.Common.{◌≡◌, ℕ, zero, suc, ◌+◌, ◌<◌, ◌≤◌, Bool, true, false, cond, List, [], ◌∷◌, length, get_or, refl, sym, ap, ◌∙◌, arith, eqb-true, eq-eqb}
 use Rattle.edi_record.specs.declared.record.Kind.{Kind}
 use Rattle.edi_record.specs.declared.record.Kind.TheVariants.{Pno, Par, Pfe, Fea, Lnk}
-use Rattle.edi_plan.specs.Plans.{Drawing, IsPlace, record_at, blank, kind_rank, same_kind}
+use Rattle.edi_plan.specs.Plans.{PlanData, IsPlace, record_at, blank, kind_rank, same_kind}
 use Rattle.edi_plan.specs.Places.{places_from, places_of}
 use Rattle.edi_plan.specs.declared.record.PlanRecord.{PlanRecord}
 
@@ -90,22 +90,22 @@ short_from kind place (r ∷ rs) = go (same_kind kind r.kind) (short_from kind (
 
 -- the places of a kind are places of records of that kind, in rising order, and there are no others
 
-pub places_few : (kind : Kind) (p : Drawing) → length (places_of kind p) ≤ length p.list
+pub places_few : (kind : Kind) (p : PlanData) → length (places_of kind p) ≤ length p.list
 places_few kind p = short_from kind 0 p.list
 
-pub place_there : (kind : Kind) (p : Drawing) (m : ℕ) → m < length (places_of kind p) → IsPlace p (get_or (places_of kind p) m 0)
+pub place_there : (kind : Kind) (p : PlanData) (m : ℕ) → m < length (places_of kind p) → IsPlace p (get_or (places_of kind p) m 0)
 place_there kind p m h = let d = member_from kind 0 p.list m h in omega (arith, d.is, d.within)
 
-pub place_of_kind : (kind : Kind) (p : Drawing) (m : ℕ) → m < length (places_of kind p) → (record_at p (get_or (places_of kind p) m 0)).kind ≡ kind
+pub place_of_kind : (kind : Kind) (p : PlanData) (m : ℕ) → m < length (places_of kind p) → (record_at p (get_or (places_of kind p) m 0)).kind ≡ kind
 place_of_kind kind p m h =
     let d = member_from kind 0 p.list m h in
     let e : get_or (places_of kind p) m 0 ≡ d.at = omega (arith, d.is) in
     ap (λ k. (record_at p k).kind) e ∙ sym (one_kind kind (record_at p d.at).kind (eqb-true _ _ d.of_kind))
 
-pub places_rise : (kind : Kind) (p : Drawing) (i j : ℕ) → i < j → j < length (places_of kind p) → get_or (places_of kind p) i 0 < get_or (places_of kind p) j 0
+pub places_rise : (kind : Kind) (p : PlanData) (i j : ℕ) → i < j → j < length (places_of kind p) → get_or (places_of kind p) i 0 < get_or (places_of kind p) j 0
 places_rise kind p i j less h = rise_from kind 0 p.list i j less h
 
-pub has_place : (kind : Kind) (p : Drawing) (k : ℕ) → IsPlace p k → (record_at p k).kind ≡ kind → (m : ℕ) × (m < length (places_of kind p)) × (get_or (places_of kind p) m 0 ≡ k)
+pub has_place : (kind : Kind) (p : PlanData) (k : ℕ) → IsPlace p k → (record_at p k).kind ≡ kind → (m : ℕ) × (m < length (places_of kind p)) × (get_or (places_of kind p) m 0 ≡ k)
 has_place kind p k h e =
     let d = found_from kind 0 p.list k h (eq-eqb (kind_rank kind) (kind_rank (record_at p k).kind) (ap kind_rank (sym e))) in
     (d.0, d.1, omega (arith, d.2))

@@ -15,7 +15,7 @@ use Rattle.edi_schema.specs.declared.role.Role.TheVariants.{Initial, Final, Left
 use Rattle.edi_plan.specs.inner.Done.{JoinsIn, IsLinkAt, JoinsBefore, IsJoinIfAny, IsDone}
 use Rattle.edi_plan.specs.Joined.{beside}
 use Rattle.edi_plan.specs.PlanOf.{IsPlanOf, StatesPlanEnd, StatesPlanRecord}
-use Rattle.edi_plan.specs.Plans.{Drawing, IsPlace, record_at, blank}
+use Rattle.edi_plan.specs.Plans.{PlanData, IsPlace, record_at, blank}
 use Rattle.edi_plan.specs.ReferenceRules.{BreaksReferenceRule, Names}
 use Rattle.edi_plan.specs.ReferenceRules.BreaksReferenceRule.{repeats_name, lacks_class, lacks_attribute_class, leaves_subset, names_nothing, joins_wrong, repeats_side}
 use Rattle.edi_plan.specs.Sides.{Side, IsSideIfAny, targets}
@@ -42,7 +42,7 @@ all_unbroken s list table done rule at h =
     let e : at ≡ suc (at - 1) = omega (arith, l.0) in
     done.unbroken (at - 1) rule (omega (arith, l.0, l.1)) (subst (BreaksReferenceRule s list rule) e h)
 
-module _ (s : Classes) (sheet : Sheet) (p : Drawing) (is : IsPlanOf s sheet p) (table : List (ByRole (Option ℕ))) (done : IsDone s sheet.list (length sheet.list) table) where
+module _ (s : Classes) (sheet : Sheet) (p : PlanData) (is : IsPlanOf s sheet p) (table : List (ByRole (Option ℕ))) (done : IsDone s sheet.list (length sheet.list) table) where
   long : length sheet.list ≡ length p.list
   long = zip_length (StatesPlanRecord s sheet.list) sheet.list p.list is.each
 

@@ -2,7 +2,7 @@
 use Rattle.std.specs.Prelude.{◌≡◌, List, [], map, flat_map, Option, MatchOption, ℤ, Contains}
 use Rattle.std.specs.Int.Signed.{◌≤ℤ◌}
 use Rattle.edi_record.specs.declared.record.Point.{Point}
-use Rattle.edi_plan.specs.Plans.{Drawing}
+use Rattle.edi_plan.specs.Plans.{PlanData}
 use Rattle.edi_plan.specs.declared.extent.Span.{Span}
 use Rattle.edi_plan.specs.declared.extent.Extent.{Extent}
 
@@ -29,5 +29,5 @@ abbrev pub IsExtentIfAny : List Point → Option Extent → Type 0
 IsExtentIfAny points found = MatchOption found (points ≡ []) (IsExtent points)
 
 -- the points of the nodes and arcs of a plan
-abbrev pub points_of : Drawing → List Point
+abbrev pub points_of : PlanData → List Point
 points_of p = flat_map (λ r. r.points) p.list

@@ -33,12 +33,12 @@ impl Drop for Plan {
 }
 
 impl Model for Plan {
-    ghost use Rattle.edi_plan.specs.Plans.{Drawing};
+    ghost use Rattle.edi_plan.specs.Plans.{PlanData};
     ghost use Rattle.edi_plan.specs.inner.Places.{ArePlacesOf};
     ghost use Rattle.edi_plan.specs.inner.SideTable.{HoldsSides};
     ghost use Rattle.edi_plan.specs.inner.RecordLists.{records_of};
 
-    ghost Value = { Drawing };
+    ghost Value = { PlanData };
 
     ghost view = { λ p. record { cse = p.cse; list = records_of p.list } };
 

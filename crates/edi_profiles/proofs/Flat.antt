@@ -1,7 +1,7 @@
 -- Files whose positions all have two coordinates.
 use Rattle.std.proofs.Common.{◌≡◌, ◌∙◌, sym, ap, subst, ℕ, zero, suc, ◌+◌, ℤ, List, [], ◌∷◌, ◌++◌, append_assoc, length, Option, Some, None, Bool, true, false, Any, codes, cond, refl, arith, inl, inr}
 use Rattle.std.specs.List.{AllByRecursion, AllZip}
-use Rattle.edi_line.specs.Entry.{Entry, first}
+use Rattle.edi_line.specs.ZoneData.{ZoneData, first}
 use Rattle.edi_line.specs.LineRules.{IsZonesOf}
 use Rattle.edi_line.specs.Refusal.{IsUnbroken}
 use Rattle.edi_line.specs.Zones.{groups_of}
@@ -19,14 +19,14 @@ use Rattle.edi_profiles.proofs.Transfer.{zip_map}
 
 -- ---- from two coordinates to three
 
-pub more_positions : (group : List Entry) (r : Record) → HasPositions two_coordinates group r → HasPositions three_coordinates group r
+pub more_positions : (group : List ZoneData) (r : Record) → HasPositions two_coordinates group r → HasPositions three_coordinates group r
 more_positions group r all = zip_map IsFlatPosition IsPosition (cond (has_points r.kind) (values (codes "COR") group) []) r.points (λ text p flat. flat.0) all
 
 pub more_sheets : (b : List ℕ) (sheet : Sheet) → IsSheetBy two_coordinates b sheet → IsSheetBy three_coordinates b sheet
 more_sheets b sheet g = (g.0, g.1, g.2, zip_map (HasPositions two_coordinates) (HasPositions three_coordinates) (groups_of g.0) sheet.list more_positions g.3)
 
 -- a text that is no position is none of two coordinates
-pub fewer_lack : (zones : List Entry) (rule at : ℕ) → BreaksRecords three_coordinates zones rule at → BreaksRecords two_coordinates zones rule at
+pub fewer_lack : (zones : List ZoneData) (rule at : ℕ) → BreaksRecords three_coordinates zones rule at → BreaksRecords two_coordinates zones rule at
 fewer_lack zones rule at (inl h) = inl h
 fewer_lack zones rule at (inr (e, (before, group, after, cut, place, (kind, is, has, (k, text, within, there, lacks))))) =
     inr (e, (before, group, after, cut, place, (kind, is, has, (k, text, within, there, λ p flat. lacks p flat.0))))
@@ -59,10 +59,10 @@ no_points [] all = tt
 no_points (p ∷ ps) all = absurd all
 
 -- a record with points is of a type that has them
-kind_is : (group : List Entry) (r : Record) → States group r → IsOfKind group r.kind
+kind_is : (group : List ZoneData) (r : Record) → States group r → IsOfKind group r.kind
 kind_is group r states = ap first states.type
 
-module _ (group : List Entry) (r : Record) (states : States group r) (none : ¬ (LacksPosition two_coordinates group)) where
+module _ (group : List ZoneData) (r : Record) (states : States group r) (none : ¬ (LacksPosition two_coordinates group)) where
   pub flat_record : HasPositions three_coordinates group r → HasPositions two_coordinates group r
   flat_record all = go (has_points r.kind) refl all
     where
@@ -73,8 +73,8 @@ module _ (group : List Entry) (r : Record) (states : States group r) (none : ¬ 
 
 -- ---- a file whose records hold by the rules of two coordinates
 
-module _ (zones : List Entry) (unbroken : IsUnbroken (BreaksRecords two_coordinates zones)) where
-  flat_records : (before groups : List (List Entry)) (list : List Record) → groups_of zones ≡ before ++ groups → AllZip States groups list
+module _ (zones : List ZoneData) (unbroken : IsUnbroken (BreaksRecords two_coordinates zones)) where
+  flat_records : (before groups : List (List ZoneData)) (list : List Record) → groups_of zones ≡ before ++ groups → AllZip States groups list
       → AllZip (HasPositions three_coordinates) groups list → AllZip (HasPositions two_coordinates) groups list
   flat_records before [] [] cut states all = tt
   flat_records before [] (r ∷ rs) cut states all = absurd all
@@ -95,22 +95,22 @@ none_lacks R [] all (k, x, within, there, lacks) = omega (arith, within)
 none_lacks R (z ∷ zs) all (zero, x, within, there, lacks) = lacks all.0.0 (subst (λ w. R w all.0.0) there all.0.1)
 none_lacks R (z ∷ zs) all (suc k, x, within, there, lacks) = none_lacks R zs all.1 (k, x, omega (arith, within), there, lacks)
 
-flat_group_holds : (group : List Entry) → IsFlatGroup group → ¬ (LacksPosition two_coordinates group)
+flat_group_holds : (group : List ZoneData) → IsFlatGroup group → ¬ (LacksPosition two_coordinates group)
 flat_group_holds group flat (kind, is, has, any) = none_lacks IsFlatPosition (values (codes "COR") group) (flat kind is has) any
 
-group_in : (P : List Entry → Type 0) (before : List (List Entry)) (group : List Entry) (after : List (List Entry)) → AllByRecursion P (before ++ group ∷ after) → P group
+group_in : (P : List ZoneData → Type 0) (before : List (List ZoneData)) (group : List ZoneData) (after : List (List ZoneData)) → AllByRecursion P (before ++ group ∷ after) → P group
 group_in P [] group after all = all.0
 group_in P (g ∷ before) group after all = group_in P before group after all.1
 
 module _ (b : List ℕ) (flat : IsFlatFile b) where
-  flat_at : (zones : List Entry) → IsZonesOf b zones → (before : List (List Entry)) (group : List Entry) (after : List (List Entry)) → groups_of zones ≡ before ++ group ∷ after → IsFlatGroup group
+  flat_at : (zones : List ZoneData) → IsZonesOf b zones → (before : List (List ZoneData)) (group : List ZoneData) (after : List (List ZoneData)) → groups_of zones ≡ before ++ group ∷ after → IsFlatGroup group
   flat_at zones z before group after cut = group_in IsFlatGroup before group after (subst (AllByRecursion IsFlatGroup) cut (flat zones z))
 
-  pub fewer_break : (zones : List Entry) → IsZonesOf b zones → (rule at : ℕ) → BreaksRecords two_coordinates zones rule at → BreaksRecords three_coordinates zones rule at
+  pub fewer_break : (zones : List ZoneData) → IsZonesOf b zones → (rule at : ℕ) → BreaksRecords two_coordinates zones rule at → BreaksRecords three_coordinates zones rule at
   fewer_break zones z rule at (inl h) = inl h
   fewer_break zones z rule at (inr (e, (before, group, after, cut, place, lacks))) = absurd (flat_group_holds group (flat_at zones z before group after cut) lacks)
 
-  flat_list : (groups : List (List Entry)) (list : List Record) → AllByRecursion IsFlatGroup groups → AllZip States groups list
+  flat_list : (groups : List (List ZoneData)) (list : List Record) → AllByRecursion IsFlatGroup groups → AllZip States groups list
       → AllZip (HasPositions three_coordinates) groups list → AllZip (HasPositions two_coordinates) groups list
   flat_list [] [] flats states all = tt
   flat_list [] (r ∷ rs) flats states all = absurd all

@@ -11,7 +11,7 @@ use Rattle.edi_line.proofs.ZonesSaid.{zones_of_one}
 use Rattle.edi_record.specs.Texts.{IsPosition}
 use Rattle.edi_record.specs.inner.Texts.{point}
 use Rattle.edi_record.proofs.TextParts.{place_is}
-use Rattle.edi_plan.specs.Plans.{Drawing}
+use Rattle.edi_plan.specs.Plans.{PlanData}
 use Rattle.edi_rank.specs.Same.{Same}
 use Rattle.edi_compare.specs.Known.{node_classes, node_file, node_plan, node_sheet}
 use Rattle.edi_compare.specs.PlanOfFile.{IsPlanOfFile}
@@ -27,24 +27,24 @@ use Rattle.edi_profiles.proofs.Transfer.{also_accepted}
 
 -- ---- the plan of the file
 
-abbrev file_plan : Drawing
+abbrev file_plan : PlanData
 file_plan = node_form.canonical.plan
 
 -- it has one record, as the plan of the sheet does
 one_place : (i k : ℕ) → i < k → k < length file_plan.list → ⊥
 one_place i k less within = go node_form.same.0 node_form.same.1 node_form.same.2 node_form.same.3 node_form.same.4
   where
-    met : (p q : Drawing) → p ≡ node_plan → q ≡ file_plan → Same node_classes p q → ⊥
+    met : (p q : PlanData) → p ≡ node_plan → q ≡ file_plan → Same node_classes p q → ⊥
     met p q one two (to, turned, carries) =
-        let of_one : length p.list ≡ 1 = ap (λ (d : Drawing). length d.list) one in
-        let of_two : length q.list ≡ length file_plan.list = ap (λ (d : Drawing). length d.list) two in
+        let of_one : length p.list ≡ 1 = ap (λ (d : PlanData). length d.list) one in
+        let of_two : length q.list ≡ length file_plan.list = ap (λ (d : PlanData). length d.list) two in
         let first = carries.places.onto i (omega (arith, less, within, of_two)) in
         let second = carries.places.onto k (omega (arith, within, of_two)) in
         let same : first.0 ≡ second.0 = omega (arith, first.1, second.1, of_one) in
         let here : i ≡ k = sym first.2 ∙ ap to same ∙ second.2 in
         omega (arith, less, here)
 
-    go : (p q : Drawing) → IsPlanOfFile node_classes node_sheet p → IsPlanOfFile node_classes node_file q → Same node_classes p q → ⊥
+    go : (p q : PlanData) → IsPlanOfFile node_classes node_sheet p → IsPlanOfFile node_classes node_file q → Same node_classes p q → ⊥
     go p q from onto same =
         met p q (one_plan node_classes node_sheet p node_plan from states_node) (one_plan node_classes node_file q file_plan onto node_form.canonical.states) same
 
@@ -73,11 +73,11 @@ file_flat zones z = subst (AllByRecursion IsFlatGroup) (sym (ap groups_of (zones
 
 -- ---- by the rules of three coordinates, and of two
 
-no_repeats : (p : Drawing) → IsPlanBy three_coordinates node_classes node_file p → (rule at : ℕ) → BreaksTopology three_coordinates p rule at → BreaksTopology today p rule at
+no_repeats : (p : PlanData) → IsPlanBy three_coordinates node_classes node_file p → (rule at : ℕ) → BreaksTopology three_coordinates p rule at → BreaksTopology today p rule at
 no_repeats p g rule at (inl h) = inl h
 no_repeats p g rule at (inr (e, (m, n, place, less, share))) =
     let same : p ≡ file_plan = one_plan node_classes node_file p file_plan (plan_now node_classes node_file p g) node_form.canonical.states in
-    absurd (one_place m n less (subst (λ (q : Drawing). n < length q.list) same share.second))
+    absurd (one_place m n less (subst (λ (q : PlanData). n < length q.list) same share.second))
 
 file_three : IsAcceptedBy three_coordinates node_classes node_file
 file_three = also_accepted today node_classes node_file (accepted_then node_classes node_file node_form.canonical.accepted) three_coordinates (λ zones rule at h. h) (λ sheet g. g) no_repeats
@@ -107,7 +107,7 @@ canonical_three =
 same_plan : Same node_classes node_plan file_plan
 same_plan = go node_form.same.0 node_form.same.1 node_form.same.2 node_form.same.3 node_form.same.4
   where
-    go : (p q : Drawing) → IsPlanOfFile node_classes node_sheet p → IsPlanOfFile node_classes node_file q → Same node_classes p q → Same node_classes node_plan file_plan
+    go : (p q : PlanData) → IsPlanOfFile node_classes node_sheet p → IsPlanOfFile node_classes node_file q → Same node_classes p q → Same node_classes node_plan file_plan
     go p q from onto same =
         subst (λ r. Same node_classes r file_plan) (one_plan node_classes node_sheet p node_plan from states_node)
         (subst (λ r. Same node_classes p r) (one_plan node_classes node_file q file_plan onto node_form.canonical.states) same)

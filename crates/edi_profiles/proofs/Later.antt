@@ -4,7 +4,7 @@ use Rattle.std.specs.Ordering.{ordering_then}
 use Rattle.std.specs.declared.cmp.Ordering.{Ordering}
 use Rattle.std.specs.declared.cmp.Ordering.TheVariants.{Less}
 use Rattle.edi_schema.specs.Classes.{Classes}
-use Rattle.edi_plan.specs.Plans.{Drawing}
+use Rattle.edi_plan.specs.Plans.{PlanData}
 use Rattle.edi_topo.specs.TopologyRules.{AreEqualNodes}
 use Rattle.edi_compare.specs.Canonical.{IsCanonical}
 use Rattle.edi_compare.specs.Headline.{IsFormOf}
@@ -17,10 +17,10 @@ use Rattle.edi_profiles.proofs.Transfer.{also_accepted, records_held, transfer}
 
 -- ---- two coordinates and three
 
-same_topology : (p : Drawing) (rule at : ℕ) → BreaksTopology three_coordinates p rule at → BreaksTopology two_coordinates p rule at
+same_topology : (p : PlanData) (rule at : ℕ) → BreaksTopology three_coordinates p rule at → BreaksTopology two_coordinates p rule at
 same_topology p rule at h = h
 
-topology_same : (p : Drawing) (rule at : ℕ) → BreaksTopology two_coordinates p rule at → BreaksTopology three_coordinates p rule at
+topology_same : (p : PlanData) (rule at : ℕ) → BreaksTopology two_coordinates p rule at → BreaksTopology three_coordinates p rule at
 topology_same p rule at h = h
 
 pub accepted_by_three : (s : Classes) (b : List ℕ) → IsAcceptedBy two_coordinates s b → IsAcceptedBy three_coordinates s b
@@ -34,7 +34,7 @@ module _ (s : Classes) (b : List ℕ) (flat : IsFlatFile b) where
   pub breaks_two : (rule at : ℕ) → BreaksBy three_coordinates s b rule at → BreaksBy two_coordinates s b rule at
   breaks_two = transfer three_coordinates two_coordinates s b (λ zones z. fewer_lack zones) (fewer_break b flat) (flat_sheets b flat) (more_sheets b) same_topology topology_same
 
-order_three : (p : Drawing) → IsInOrderBy two_coordinates p → IsInOrderBy three_coordinates p
+order_three : (p : PlanData) → IsInOrderBy two_coordinates p → IsInOrderBy three_coordinates p
 order_three p o = record {
   by_type = o.by_type;
   nodes = o.nodes;
@@ -47,7 +47,7 @@ order_three p o = record {
   others = o.others;
 }
 
-order_two : (p : Drawing) → IsInOrderBy three_coordinates p → IsInOrderBy two_coordinates p
+order_two : (p : PlanData) → IsInOrderBy three_coordinates p → IsInOrderBy two_coordinates p
 order_two p o = record {
   by_type = o.by_type;
   nodes = o.nodes;
@@ -82,10 +82,10 @@ canonical_by_two s c flat can = record {
 
 -- ---- three coordinates and today
 
-shared : (p : Drawing) (m n : ℕ) → AreEqualNodes p m n → ShareAPosition p m n
+shared : (p : PlanData) (m n : ℕ) → AreEqualNodes p m n → ShareAPosition p m n
 shared p m n h = record { first = h.first; second = h.second; first_node = h.first_node; second_node = h.second_node; points = h.points }
 
-topology_today : (p : Drawing) (rule at : ℕ) → BreaksTopology today p rule at → BreaksTopology three_coordinates p rule at
+topology_today : (p : PlanData) (rule at : ℕ) → BreaksTopology today p rule at → BreaksTopology three_coordinates p rule at
 topology_today p rule at (inl h) = inl h
 topology_today p rule at (inr (e, (m, n, place, less, equal))) = inr (e, (m, n, place, less, shared p m n equal))
 
@@ -98,7 +98,7 @@ accepted_today s b accepted = accepted_now s b (accepted_by_today s b accepted)
 less_first : (o rest : Ordering) → o ≡ Less → ordering_then o rest ≡ Less
 less_first o rest h = ap (λ x. ordering_then x rest) h
 
-order_today : (p : Drawing) → IsInOrderBy three_coordinates p → IsInOrderBy today p
+order_today : (p : PlanData) → IsInOrderBy three_coordinates p → IsInOrderBy today p
 order_today p o = record {
   by_type = o.by_type;
   nodes = λ i k both. less_first _ _ (o.nodes i k both);

@@ -2,7 +2,7 @@
 use Rattle.std.proofs.Common.{◌≡◌, ◌∙◌, sym, ap, subst, refl, ℕ, ◌<◌, [], ◌∷◌, length, Some, None, codes, arith, lit≤, inl, inr}
 use Rattle.std.specs.List.{AllByRecursion, AllZip}
 use Rattle.std.specs.Prelude.{pos}
-use Rattle.edi_line.specs.Entry.{Entry}
+use Rattle.edi_line.specs.ZoneData.{ZoneData}
 use Rattle.edi_line.specs.LineRules.{IsZonesOf}
 use Rattle.edi_line.specs.Zones.{groups_of}
 use Rattle.edi_line.specs.inner.Spelling.{reading_of, has_head}
@@ -21,7 +21,7 @@ use Rattle.edi_record.specs.declared.sheet.Sheet.{Sheet}
 use Rattle.edi_record.proofs.RowsHold.{node_zones, node_said}
 use Rattle.edi_record.proofs.StatesSaid.{states_said}
 use Rattle.edi_record.proofs.TextParts.{place_is, place_one}
-use Rattle.edi_plan.specs.Plans.{Drawing}
+use Rattle.edi_plan.specs.Plans.{PlanData}
 use Rattle.edi_compare.specs.Known.{node_classes, node_plan, node_sheet}
 use Rattle.edi_compare.specs.PlanOfFile.{IsPlanOfFile, IsSheetOf}
 use Rattle.edi_compare.specs.Rules.{LinesHold}
@@ -49,11 +49,11 @@ node_flat zones z = subst (AllByRecursion IsFlatGroup) (sym (ap groups_of (zones
     group kind is has = ((record { x = pos 10500000; y = pos 20000000; z = None }, (node_said.points.0, refl)), tt)
 
 -- the plan has one node, so none repeats another
-no_repeats : (p : Drawing) → IsPlanBy three_coordinates node_classes node_sheet p → (rule at : ℕ) → BreaksTopology three_coordinates p rule at → BreaksTopology today p rule at
+no_repeats : (p : PlanData) → IsPlanBy three_coordinates node_classes node_sheet p → (rule at : ℕ) → BreaksTopology three_coordinates p rule at → BreaksTopology today p rule at
 no_repeats p g rule at (inl h) = inl h
 no_repeats p g rule at (inr (e, (m, n, place, less, share))) =
     let same : p ≡ node_plan = one_plan node_classes node_sheet p node_plan (plan_now node_classes node_sheet p g) states_node in
-    let within : n < length node_plan.list = subst (λ (q : Drawing). n < length q.list) same share.second in
+    let within : n < length node_plan.list = subst (λ (q : PlanData). n < length q.list) same share.second in
     absurd (omega (arith, less, within))
 
 pub node_three : IsAcceptedBy three_coordinates node_classes node_sheet
@@ -102,7 +102,7 @@ shared_groups : groups_of (zones_of shared_sheet) ≡ first_group ∷ second_gro
 unfolding reading_of has_head
 shared_groups = refl
 
-shared_set : None ≡ Rattle.std.specs.Prelude.option_map (λ (e : Entry). e.value) (Rattle.edi_line.specs.Zones.charset_of (zones_of shared_sheet))
+shared_set : None ≡ Rattle.std.specs.Prelude.option_map (λ (e : ZoneData). e.value) (Rattle.edi_line.specs.Zones.charset_of (zones_of shared_sheet))
 unfolding reading_of has_head
 shared_set = refl
 

@@ -1,7 +1,7 @@
 -- What the known sheets state.
 use Rattle.std.proofs.Common.{ℕ, List, [], ◌∷◌, None, Some, codes}
 use Rattle.std.specs.Prelude.{pos}
-use Rattle.edi_line.specs.Entry.{Entry}
+use Rattle.edi_line.specs.ZoneData.{ZoneData}
 use Rattle.edi_line.specs.Printing.{at_line, zone_headed}
 use Rattle.edi_record.specs.declared.record.Kind.TheVariants.{Pno}
 use Rattle.edi_record.specs.declared.record.Extra.{Extra}
@@ -9,11 +9,11 @@ use Rattle.edi_record.specs.declared.record.Point.{Point}
 use Rattle.edi_record.specs.declared.record.Record.{Record}
 use Rattle.edi_record.specs.declared.record.Value.TheVariants.{Bytes}
 use Rattle.edi_schema.specs.declared.role.Role.TheVariants.{Plain}
-use Rattle.edi_plan.specs.Plans.{Drawing}
+use Rattle.edi_plan.specs.Plans.{PlanData}
 use Rattle.edi_plan.specs.declared.record.PlanRecord.{PlanRecord}
 
 -- the zones of the high node, and its position
-abbrev pub high_group : List Entry
+abbrev pub high_group : List ZoneData
 high_group =
     at_line 2 (zone_headed (codes "RTYSA") (codes "PNO"))
     ∷ at_line 3 (zone_headed (codes "RIDSA") (codes "Noeud_1"))
@@ -25,7 +25,7 @@ abbrev pub high_point : Point
 high_point = record { x = pos 1000000; y = pos 2000000; z = Some (pos 3000000) }
 
 -- the zones of the node in its canonical file, and its position
-abbrev pub file_group : List Entry
+abbrev pub file_group : List ZoneData
 file_group =
     at_line 3 (zone_headed (codes "RTYSA") (codes "PNO"))
     ∷ at_line 4 (zone_headed (codes "RIDSA") (codes "N1"))
@@ -38,7 +38,7 @@ abbrev pub flat_point : Point
 flat_point = record { x = pos 10500000; y = pos 20000000; z = None }
 
 -- the zones of the two nodes
-abbrev pub first_group : List Entry
+abbrev pub first_group : List ZoneData
 first_group =
     at_line 2 (zone_headed (codes "RTYSA") (codes "PNO"))
     ∷ at_line 3 (zone_headed (codes "RIDSA") (codes "a"))
@@ -46,7 +46,7 @@ first_group =
     ∷ at_line 5 (zone_headed (codes "CORCC") (codes "1;2;"))
     ∷ []
 
-abbrev pub second_group : List Entry
+abbrev pub second_group : List ZoneData
 second_group =
     at_line 6 (zone_headed (codes "RTYSA") (codes "PNO"))
     ∷ at_line 7 (zone_headed (codes "RIDSA") (codes "b"))
@@ -77,5 +77,5 @@ node_of rid extras = record {
 abbrev pub planned : List Extra → PlanRecord
 planned extras = record { kind = Pno; class = 0; role = Plain; points = shared_point ∷ []; attributes = []; extras = extras; ends = [] }
 
-abbrev pub shared_plan : Drawing
+abbrev pub shared_plan : PlanData
 shared_plan = record { cse = None; list = planned [] ∷ planned (extra_zone ∷ []) ∷ [] }

@@ -1,6 +1,6 @@
 -- At the profile of today the definitions are those of today.
 use Rattle.std.proofs.Common.{◌≡◌, ◌≢◌, ◌∙◌, sym, ℕ, List, arith, inl, inr}
-use Rattle.edi_line.specs.Entry.{Entry}
+use Rattle.edi_line.specs.ZoneData.{ZoneData}
 use Rattle.edi_line.specs.Zones.{groups_of}
 use Rattle.edi_record.specs.RecordRules.{BreaksRecordRule}
 use Rattle.edi_record.specs.RecordRules.BreaksGroupRule.{bad_point}
@@ -8,7 +8,7 @@ use Rattle.edi_record.specs.RecordRules.HasBadPoint.{no_position}
 use Rattle.edi_record.specs.Records.{States}
 use Rattle.edi_record.specs.declared.sheet.Sheet.{Sheet}
 use Rattle.edi_schema.specs.Classes.{Classes}
-use Rattle.edi_plan.specs.Plans.{Drawing}
+use Rattle.edi_plan.specs.Plans.{PlanData}
 use Rattle.edi_topo.specs.TopologyRules.{BreaksTopologyRule}
 use Rattle.edi_topo.specs.TopologyRules.BreaksTopologyRule.{starts_elsewhere, ends_elsewhere, repeats_node, equals_reverse, repeats_arc, bounds_nothing}
 use Rattle.edi_rank.specs.InOrder.{IsInOrder}
@@ -21,7 +21,7 @@ use Rattle.edi_profiles.specs.Profiles.{BreaksBy, BreaksRecords, BreaksTopology,
 use Rattle.edi_profiles.specs.Profiles.BreaksBy.{of_lines, of_records, of_references, of_topology, of_objects}
 use Rattle.edi_profiles.proofs.Transfer.{zip_map}
 
-records_now : (zones : List Entry) (rule at : ℕ) → BreaksRecords today zones rule at → BreaksRecordRule zones rule at
+records_now : (zones : List ZoneData) (rule at : ℕ) → BreaksRecords today zones rule at → BreaksRecordRule zones rule at
 records_now zones rule at (inl h) = h
 records_now zones rule at (inr (e, (before, group, after, cut, place, (kind, is, has, any)))) =
     record { before = before; group = group; after = after; cut = cut; place_is = place; breaks = bad_point e (no_position kind is has any) }
@@ -32,20 +32,20 @@ sheet_now b sheet g = (g.0, g.1, g.2)
 pub sheet_then : (b : List ℕ) (sheet : Sheet) → IsSheetOf b sheet → IsSheetBy today b sheet
 sheet_then b sheet g = (g.0, g.1, g.2, zip_map States (HasPositions today) (groups_of g.0) sheet.list (λ group r states. states.points) g.2.records)
 
-pub plan_now : (s : Classes) (b : List ℕ) (p : Drawing) → IsPlanBy today s b p → IsPlanOfFile s b p
+pub plan_now : (s : Classes) (b : List ℕ) (p : PlanData) → IsPlanBy today s b p → IsPlanOfFile s b p
 plan_now s b p g = (g.0, sheet_now b g.0 g.1, g.2)
 
-pub plan_then : (s : Classes) (b : List ℕ) (p : Drawing) → IsPlanOfFile s b p → IsPlanBy today s b p
+pub plan_then : (s : Classes) (b : List ℕ) (p : PlanData) → IsPlanOfFile s b p → IsPlanBy today s b p
 plan_then s b p g = (g.0, sheet_then b g.0 g.1, g.2)
 
-topology_now : (p : Drawing) (rule at : ℕ) → BreaksTopology today p rule at → BreaksTopologyRule p rule at
+topology_now : (p : PlanData) (rule at : ℕ) → BreaksTopology today p rule at → BreaksTopologyRule p rule at
 topology_now p rule at (inl h) = h.1
 topology_now p rule at (inr (e, (m, n, place, less, equal))) = repeats_node e (m, n, place, less, equal)
 
 not_403 : (rule other : ℕ) → rule ≡ other → other ≢ 403 → rule ≢ 403
 not_403 rule other e apart f = apart (sym e ∙ f)
 
-pub topology_then : (p : Drawing) (rule at : ℕ) → BreaksTopologyRule p rule at → BreaksTopology today p rule at
+pub topology_then : (p : PlanData) (rule at : ℕ) → BreaksTopologyRule p rule at → BreaksTopology today p rule at
 topology_then p rule at (starts_elsewhere e h) = inl (not_403 rule 401 e (λ f. omega (arith, f)), starts_elsewhere e h)
 topology_then p rule at (ends_elsewhere e h) = inl (not_403 rule 402 e (λ f. omega (arith, f)), ends_elsewhere e h)
 topology_then p rule at (repeats_node e h) = inr (e, h)
@@ -92,7 +92,7 @@ module _ (s : Classes) (b : List ℕ) where
   pub accepted_then : IsAccepted s b → IsAcceptedBy today s b
   accepted_then accepted rule at h = accepted rule at (breaks_now rule at h)
 
-order_now : (p : Drawing) → IsInOrderBy today p → IsInOrder p
+order_now : (p : PlanData) → IsInOrderBy today p → IsInOrder p
 order_now p o = record {
   by_type = o.by_type;
   rise = record { nodes = o.nodes; arcs = o.arcs; faces = o.faces; objects = o.objects; links = o.links };
@@ -101,7 +101,7 @@ order_now p o = record {
   others = o.others;
 }
 
-order_then : (p : Drawing) → IsInOrder p → IsInOrderBy today p
+order_then : (p : PlanData) → IsInOrder p → IsInOrderBy today p
 order_then p o = record {
   by_type = o.by_type;
   nodes = o.rise.nodes;
@@ -134,7 +134,7 @@ canonical_then s c can = record {
   in_order = order_then can.plan can.in_order;
 }
 
-pub form_then : (s : Classes) (b c : List ℕ) (p : Drawing) → IsAccepted s b → IsPlanOfFile s b p → (can : IsCanonical s c) → Same s p can.plan → IsFormBy today s b c
+pub form_then : (s : Classes) (b c : List ℕ) (p : PlanData) → IsAccepted s b → IsPlanOfFile s b p → (can : IsCanonical s c) → Same s p can.plan → IsFormBy today s b c
 unfolding canonical_then
 form_then s b c p accepted states can same =
     record { plan = p; accepted = accepted_then s b accepted; states = plan_then s b p states; canonical = canonical_then s c can; same = same }

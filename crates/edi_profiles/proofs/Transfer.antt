@@ -1,11 +1,11 @@
 -- From one profile to another.
 use Rattle.std.proofs.Common.{ℕ, List, [], ◌∷◌}
 use Rattle.std.specs.List.{AllZip}
-use Rattle.edi_line.specs.Entry.{Entry}
+use Rattle.edi_line.specs.ZoneData.{ZoneData}
 use Rattle.edi_line.specs.LineRules.{IsZonesOf}
 use Rattle.edi_record.specs.declared.sheet.Sheet.{Sheet}
 use Rattle.edi_schema.specs.Classes.{Classes}
-use Rattle.edi_plan.specs.Plans.{Drawing}
+use Rattle.edi_plan.specs.Plans.{PlanData}
 use Rattle.edi_compare.specs.Rules.{LinesHold}
 use Rattle.edi_profiles.specs.Profiles.{Profile, BreaksBy, BreaksRecords, BreaksTopology, IsAcceptedBy, IsPlanBy, IsSheetBy, RecordsHoldBy, ReferencesHoldBy, TopologyHoldsBy}
 use Rattle.edi_profiles.specs.Profiles.BreaksBy.{of_lines, of_records, of_references, of_topology, of_objects}
@@ -31,10 +31,10 @@ module _ (P : Profile) (s : Classes) (b : List ℕ) (accepted : IsAcceptedBy P s
   topology_held = (references_held, λ p g rule at h. accepted rule at (of_topology p references_held g h))
 
   -- a sheet accepted by one profile is accepted by another, whose rules are broken only where those of the one are
-  module _ (Q : Profile) (records : (zones : List Entry) (rule at : ℕ) → BreaksRecords Q zones rule at → BreaksRecords P zones rule at)
+  module _ (Q : Profile) (records : (zones : List ZoneData) (rule at : ℕ) → BreaksRecords Q zones rule at → BreaksRecords P zones rule at)
       (sheets : (sheet : Sheet) → IsSheetBy Q b sheet → IsSheetBy P b sheet)
-      (topology : (p : Drawing) → IsPlanBy Q s b p → (rule at : ℕ) → BreaksTopology Q p rule at → BreaksTopology P p rule at) where
-    plan : (p : Drawing) → IsPlanBy Q s b p → IsPlanBy P s b p
+      (topology : (p : PlanData) → IsPlanBy Q s b p → (rule at : ℕ) → BreaksTopology Q p rule at → BreaksTopology P p rule at) where
+    plan : (p : PlanData) → IsPlanBy Q s b p → IsPlanBy P s b p
     plan p g = (g.0, sheets g.0 g.1, g.2)
 
     pub also_accepted : IsAcceptedBy Q s b
@@ -46,12 +46,12 @@ module _ (P : Profile) (s : Classes) (b : List ℕ) (accepted : IsAcceptedBy P s
 
 -- two profiles whose rules are broken at the same places of a file, phase by phase
 module _ (P Q : Profile) (s : Classes) (b : List ℕ)
-    (records : (zones : List Entry) → IsZonesOf b zones → (rule at : ℕ) → BreaksRecords P zones rule at → BreaksRecords Q zones rule at)
-    (back : (zones : List Entry) → IsZonesOf b zones → (rule at : ℕ) → BreaksRecords Q zones rule at → BreaksRecords P zones rule at)
+    (records : (zones : List ZoneData) → IsZonesOf b zones → (rule at : ℕ) → BreaksRecords P zones rule at → BreaksRecords Q zones rule at)
+    (back : (zones : List ZoneData) → IsZonesOf b zones → (rule at : ℕ) → BreaksRecords Q zones rule at → BreaksRecords P zones rule at)
     (sheets : (sheet : Sheet) → IsSheetBy P b sheet → IsSheetBy Q b sheet)
     (sheets_back : (sheet : Sheet) → IsSheetBy Q b sheet → IsSheetBy P b sheet)
-    (topology : (p : Drawing) (rule at : ℕ) → BreaksTopology P p rule at → BreaksTopology Q p rule at)
-    (topology_back : (p : Drawing) (rule at : ℕ) → BreaksTopology Q p rule at → BreaksTopology P p rule at) where
+    (topology : (p : PlanData) (rule at : ℕ) → BreaksTopology P p rule at → BreaksTopology Q p rule at)
+    (topology_back : (p : PlanData) (rule at : ℕ) → BreaksTopology Q p rule at → BreaksTopology P p rule at) where
   records_hold : RecordsHoldBy P s b → RecordsHoldBy Q s b
   records_hold held = (held.0, λ zones z rule at h. held.1 zones z rule at (back zones z rule at h))
 

@@ -3,7 +3,7 @@ use Rattle.std.specs.Prelude.{◌≡◌, ◌↔◌, ℕ, List, ◌∷◌, [], �
 use Rattle.std.specs.List.{AllByRecursion}
 use Rattle.std.specs.Ordering.{ordering_then, int_cmp}
 use Rattle.edi_line.specs.Bytes.{semicolon}
-use Rattle.edi_line.specs.Entry.{Entry}
+use Rattle.edi_line.specs.ZoneData.{ZoneData}
 use Rattle.edi_line.specs.LineRules.{IsZonesOf}
 use Rattle.edi_line.specs.Number.{signed_text}
 use Rattle.edi_line.specs.Zones.{groups_of}
@@ -25,13 +25,13 @@ pub record TodayIsToday : Type 0 where
   pub canonical : (s : Classes) (c : List ℕ) → IsCanonicalBy today s c ↔ IsCanonical s c
 
 -- each COR of a node or an arc is a position of two coordinates
-abbrev pub IsFlatGroup : List Entry → Type 0
+abbrev pub IsFlatGroup : List ZoneData → Type 0
 IsFlatGroup group =
     (kind : Kind) → IsOfKind group kind → has_points kind ≡ true
     → AllByRecursion (λ text. (p : Point) × IsFlatPosition text p) (values (codes "COR") group)
 
 abbrev pub IsFlatFile : List ℕ → Type 0
-IsFlatFile b = (zones : List Entry) → IsZonesOf b zones → AllByRecursion IsFlatGroup (groups_of zones)
+IsFlatFile b = (zones : List ZoneData) → IsZonesOf b zones → AllByRecursion IsFlatGroup (groups_of zones)
 
 -- for such a file the rules before and after the third coordinate break the same rules at the same places, and the one
 -- calls it canonical if the other does

@@ -10,7 +10,7 @@ use Rattle.edi_schema.specs.Classes.{Classes, partner_of}
 use Rattle.edi_schema.specs.Sorted.{sort_by, NeverFalls}
 use Rattle.edi_schema.proofs.SortedLists.{NeverFalls-sort_by, sort_by-in_order}
 use Rattle.edi_plan.specs.Orders.{attribute_cmp}
-use Rattle.edi_plan.specs.Plans.{Drawing, IsPlace, record_at, kind_rank}
+use Rattle.edi_plan.specs.Plans.{PlanData, IsPlace, record_at, kind_rank}
 use Rattle.edi_plan.specs.declared.record.PlanRecord.{PlanRecord}
 use Rattle.edi_plan.specs.declared.record.PlanEnd.{PlanEnd}
 use Rattle.edi_plan.proofs.Orders.{attribute_total, attribute_exact}
@@ -58,7 +58,7 @@ no_ends r is may = go r.ends (ap (λ kind. may_have_ends kind (length r.ends)) (
     go [] none = refl
     go (x ∷ xs) none = let e : suc (length xs) ≡ 0 = eqb-true _ _ none in absurd (omega (arith, e))
 
-module _ (s : Classes) (p : Drawing) (l : Labelling) (labels : AreLabels s p l) where
+module _ (s : Classes) (p : PlanData) (l : Labelling) (labels : AreLabels s p l) where
   abbrev kind_at : ℕ → Kind
   kind_at k = (record_at p k).kind
 

@@ -13,7 +13,7 @@ use Rattle.edi_schema.specs.Roles.{is_plain}
 use Rattle.edi_schema.specs.Sorted.{sort_by, NeverFalls}
 use Rattle.edi_schema.proofs.SortedLists.{NeverFalls-sort_by, IsPermutation-sort_by}
 use Rattle.edi_record.specs.Records.{is_link}
-use Rattle.edi_plan.specs.Plans.{Drawing, IsPlace, record_at, is_arc, is_object, first_of, rest_of, others_of}
+use Rattle.edi_plan.specs.Plans.{PlanData, IsPlace, record_at, is_arc, is_object, first_of, rest_of, others_of}
 use Rattle.edi_plan.specs.Whole.{IsWholePlan}
 use Rattle.edi_plan.specs.declared.record.PlanRecord.{PlanRecord}
 use Rattle.edi_plan.specs.declared.record.PlanEnd.{PlanEnd}
@@ -33,17 +33,17 @@ use Rattle.edi_rank.proofs.TurnedRecords.{record_turned, turned_long, reverse_fo
 use Rattle.edi_rank.proofs.Renumbered.{up, shift, shift_cmp, link_shift, link_shift_cmp, object_shift, object_shift_cmp, face_shift, faces_shift_cmp, link_up, object_up, least_up, shifted, shifted_is, never-map}
 use Rattle.edi_rank.proofs.SameLaws.{map_alike, map-map}
 
-module _ (s : Classes) (p : Drawing) (l : Labelling) (labels : AreLabels s p l) (whole : IsWholePlan p) where
+module _ (s : Classes) (p : PlanData) (l : Labelling) (labels : AreLabels s p l) (whole : IsWholePlan p) where
   abbrev to : ℕ → ℕ
   to = new_place l p
 
   abbrev off : Kind → ℕ
   off = offset l
 
-  abbrev turned : Drawing
+  abbrev turned : PlanData
   turned = turned_by s l p
 
-  abbrev made : Drawing
+  abbrev made : PlanData
   made = arranged s l p
 
   long : length turned.list ≡ length p.list

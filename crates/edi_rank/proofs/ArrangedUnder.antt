@@ -15,7 +15,7 @@ use Rattle.edi_schema.proofs.SortedLists.{IsPermutation-sort_by, counts_from_per
 use Rattle.edi_plan.specs.Agreeing.{AttributeAgrees, RecordAgrees, Agrees}
 use Rattle.edi_plan.specs.Orders.{attribute_cmp}
 use Rattle.edi_record.specs.Records.{is_link}
-use Rattle.edi_plan.specs.Plans.{Drawing, IsPlace, record_at, blank, is_arc}
+use Rattle.edi_plan.specs.Plans.{PlanData, IsPlace, record_at, blank, is_arc}
 use Rattle.edi_plan.specs.Whole.{IsWholePlan}
 use Rattle.edi_plan.specs.declared.record.PlanRecord.{PlanRecord}
 use Rattle.edi_plan.specs.declared.record.PlanEnd.{PlanEnd}
@@ -104,7 +104,7 @@ role_agrees s paired turned r is = go (is_plain r.role) (has_turned_arc turned r
     go false true e = ap exchanged is ∙ sym (paired.exchanges r.class (ap is_plain (sym is) ∙ e))
     go false false e = is
 
-module _ (s : Classes) (p : Drawing) (l : Labelling) (labels : AreLabels s p l) where
+module _ (s : Classes) (p : PlanData) (l : Labelling) (labels : AreLabels s p l) where
   c : Carries s (new_place l p) (turned_at l.turned) p (arranged s l p)
   c = carries_arranged s p l labels
 
@@ -182,5 +182,5 @@ module _ (s : Classes) (p : Drawing) (l : Labelling) (labels : AreLabels s p l) 
             (λ e t. ap is_arc (kind_kept e.target t)) (record_at p k).ends (whole.there k h) in
             subst (λ n. n ≤ 1) (sym (counts ∙ (mapped ∙ alike))) (whole.one_arc k h before)
 
-pub under_arranged : (s : Classes) (p : Drawing) (l : Labelling) → IsPlanUnder s p → AreLabels s p l → IsPlanUnder s (arranged s l p)
+pub under_arranged : (s : Classes) (p : PlanData) (l : Labelling) → IsPlanUnder s p → AreLabels s p l → IsPlanUnder s (arranged s l p)
 under_arranged s p l under labels = record { paired = under.paired; whole = whole_arranged s p l labels under.whole; agrees = agrees_arranged s p l labels under.paired under.agrees }

@@ -12,7 +12,7 @@ use Rattle.edi_record.specs.declared.record.Kind.TheVariants.{Pno, Par, Pfe, Fea
 use Rattle.edi_schema.specs.Classes.{Classes}
 use Rattle.edi_schema.proofs.SortedLists.{IsPermutation-sort_by}
 use Rattle.edi_plan.specs.Orders.{attribute_cmp}
-use Rattle.edi_plan.specs.Plans.{Drawing, IsPlace, record_at, blank, is_arc, first_of, rest_of}
+use Rattle.edi_plan.specs.Plans.{PlanData, IsPlace, record_at, blank, is_arc, first_of, rest_of}
 use Rattle.edi_plan.specs.declared.record.PlanEnd.{PlanEnd}
 use Rattle.edi_plan.proofs.Orders.{attribute_total}
 use Rattle.edi_rank.specs.Arranged.{offset, new_place, old_places, numbered_cmp, ordered_ends, arranged_record, arranged}
@@ -99,14 +99,14 @@ located l j h = in_links (split_at (four l) l.links j h)
 
 -- the ends of an arranged record
 
-pub numbered_total : (p : Drawing) (number : ℕ → ℕ) → IsTotalOrder (numbered_cmp p number)
+pub numbered_total : (p : PlanData) (number : ℕ → ℕ) → IsTotalOrder (numbered_cmp p number)
 numbered_total p number = on_total (numbered p number) end_total
 
-same_origin : (p : Drawing) (number to : ℕ → ℕ) (xs : List PlanEnd) → first_of (map (moved to) (ordered_ends p number xs)) ≡ option_map (moved to) (first_of xs)
+same_origin : (p : PlanData) (number to : ℕ → ℕ) (xs : List PlanEnd) → first_of (map (moved to) (ordered_ends p number xs)) ≡ option_map (moved to) (first_of xs)
 same_origin p number to [] = refl
 same_origin p number to (x ∷ xs) = refl
 
-same_others : (p : Drawing) (number to : ℕ → ℕ) (xs : List PlanEnd) → IsPermutation (map (moved to) (rest_of xs)) (rest_of (map (moved to) (ordered_ends p number xs)))
+same_others : (p : PlanData) (number to : ℕ → ℕ) (xs : List PlanEnd) → IsPermutation (map (moved to) (rest_of xs)) (rest_of (map (moved to) (ordered_ends p number xs)))
 same_others p number to [] = IsPermutation-refl []
 same_others p number to (x ∷ xs) = IsPermutation-map (moved to) _ _ (IsPermutation-sym _ _ (IsPermutation-sort_by (numbered_cmp p number) (numbered_total p number) xs))
 
@@ -117,7 +117,7 @@ backward_arc Pfe b h = absurd (true≢false (sym h))
 backward_arc Fea b h = absurd (true≢false (sym h))
 backward_arc Lnk b h = absurd (true≢false (sym h))
 
-module _ (s : Classes) (p : Drawing) (l : Labelling) (labels : AreLabels s p l) where
+module _ (s : Classes) (p : PlanData) (l : Labelling) (labels : AreLabels s p l) where
   -- each place of the plan is in the new order, at its new place
   pub placed : (k : ℕ) → IsPlace p k → slice_get (old_places l) (new_place l p k) ≡ Some k
   placed k h = at_offset l (record_at p k).kind (number_of l k - 1) k (labels.to_count k h)

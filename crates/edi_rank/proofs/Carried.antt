@@ -2,7 +2,7 @@
 use Rattle.std.proofs.Common.{◌≡◌, ℕ, ◌<◌, Bool, List, [], ◌∷◌, length, Some, option_map, refl, sym, ap, ◌∙◌, subst, IsPermutation}
 use Rattle.std.specs.List.{AllByRecursion}
 use Rattle.edi_schema.specs.Classes.{Classes}
-use Rattle.edi_plan.specs.Plans.{Drawing, IsPlace, record_at, first_of, others_of}
+use Rattle.edi_plan.specs.Plans.{PlanData, IsPlace, record_at, first_of, others_of}
 use Rattle.edi_plan.specs.Whole.{IsWholePlan}
 use Rattle.edi_plan.specs.declared.record.PlanRecord.{PlanRecord}
 use Rattle.edi_plan.specs.declared.record.PlanEnd.{PlanEnd}
@@ -35,7 +35,7 @@ record_alike s to on turned turned' n same same' i a b there here c = record {
     tests = passes_alike (λ (x : PlanEnd). x.target < n) (λ x. turned x.target) (λ x. turned' x.target) (λ x h. same' x.target h) a.ends there
 
 -- maps with the same values carry the same
-pub carries_alike : (s : Classes) (p q : Drawing) → IsWholePlan p → (to on : ℕ → ℕ) (turned turned' : ℕ → Bool)
+pub carries_alike : (s : Classes) (p q : PlanData) → IsWholePlan p → (to on : ℕ → ℕ) (turned turned' : ℕ → Bool)
     → ((i : ℕ) → IsPlace p i → to i ≡ on i) → ((i : ℕ) → IsPlace p i → turned i ≡ turned' i) → Carries s to turned p q → Carries s on turned' p q
 carries_alike s p q whole to on turned turned' same same' c = record {
   places = record {
@@ -50,7 +50,7 @@ carries_alike s p q whole to on turned turned' same same' c = record {
 }
 
 -- Of two plans that are carried onto one, the first is carried onto the second by what takes each record to the one with the same image.
-pub carries_between : (s : Classes) (p q r : Drawing) → IsPlanUnder s p → IsPlanUnder s q → IsPlanUnder s r → (first second : ℕ → ℕ) (turned turned' : ℕ → Bool)
+pub carries_between : (s : Classes) (p q r : PlanData) → IsPlanUnder s p → IsPlanUnder s q → IsPlanUnder s r → (first second : ℕ → ℕ) (turned turned' : ℕ → Bool)
     → Carries s first turned p r → Carries s second turned' q r → (to : ℕ → ℕ) (flags : ℕ → Bool)
     → ((i : ℕ) → IsPlace p i → IsPlace q (to i)) → ((i : ℕ) → IsPlace p i → second (to i) ≡ first i) → ((i : ℕ) → IsPlace p i → flags i ≡ differ (turned i) (turned' (to i)))
     → Carries s to flags p q

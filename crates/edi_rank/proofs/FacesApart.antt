@@ -8,7 +8,7 @@ use Rattle.edi_schema.specs.declared.role.Role.{Role}
 use Rattle.edi_schema.specs.declared.role.Role.TheVariants.{Initial, Final, Left, Right, Plain}
 use Rattle.edi_plan.specs.Joined.{IsJoined}
 use Rattle.edi_plan.specs.Places.{places_of, member_of}
-use Rattle.edi_plan.specs.Plans.{Drawing, IsPlace, record_at}
+use Rattle.edi_plan.specs.Plans.{PlanData, IsPlace, record_at}
 use Rattle.edi_plan.specs.Sides.{Side}
 use Rattle.edi_plan.specs.Whole.{IsWholePlan}
 use Rattle.edi_plan.proofs.PlaceLemmas.{place_there, place_of_kind, places_rise}
@@ -41,7 +41,7 @@ one_role : (t : Bool) (r q : Role) → cond t (exchanged r) r ≡ cond t (exchan
 one_role true r q e = sym (exchanged_back r) ∙ (ap exchanged e ∙ exchanged_back q)
 one_role false r q e = e
 
-module _ (p : Drawing) (whole : IsWholePlan p) (joined : IsJoined p) (number : ℕ → ℕ) where
+module _ (p : PlanData) (whole : IsWholePlan p) (joined : IsJoined p) (number : ℕ → ℕ) where
   on_side : (x : ℕ) (key : FaceKey) → least_side (forward_plan p) number x ≡ Some key → OnSide p number x key
   on_side x key e = (subst (IsLeastOf (OnSide p number x)) e (least_is_of p whole joined (λ c. c) (is_backward p) (λ k h. refl) x number)).0
 
@@ -75,7 +75,7 @@ module _ (p : Drawing) (whole : IsWholePlan p) (joined : IsJoined p) (number : �
         let side = some_side bounded x h face in
         same_face x y side.0 (on_side x side.0 side.1) (on_side y side.0 (sym e ∙ side.1))
 
-module _ (p : Drawing) (whole : IsWholePlan p) (joined : IsJoined p) (arcs : List ℕ) (each : NumbersEach arcs) (long : length arcs ≡ length (places_of Par p)) where
+module _ (p : PlanData) (whole : IsWholePlan p) (joined : IsJoined p) (arcs : List ℕ) (each : NumbersEach arcs) (long : length arcs ≡ length (places_of Par p)) where
   abbrev number : ℕ → ℕ
   number = ranked p [] arcs []
 

@@ -10,7 +10,7 @@ use Rattle.edi_schema.specs.Roles.{is_plain}
 use Rattle.edi_schema.specs.declared.role.Role.{Role}
 use Rattle.edi_plan.specs.Joined.{IsJoined}
 use Rattle.edi_plan.specs.Places.{places_of}
-use Rattle.edi_plan.specs.Plans.{Drawing, IsPlace, record_at, kind_rank, is_arc, is_object, first_of}
+use Rattle.edi_plan.specs.Plans.{PlanData, IsPlace, record_at, kind_rank, is_arc, is_object, first_of}
 use Rattle.edi_plan.specs.Whole.{IsWholePlan}
 use Rattle.edi_plan.proofs.PlaceLemmas.{place_there, place_of_kind}
 use Rattle.edi_plan.specs.declared.record.PlanRecord.{PlanRecord}
@@ -36,7 +36,7 @@ use Rattle.edi_rank.proofs.Unique.{all_places}
 
 -- arcs
 
-pub arc_carried : (s : Classes) (p q : Drawing) (to : ℕ → ℕ) (turned : ℕ → Bool) → Carries s to turned p q → IsPreserved p Par to (λ a. forward (record_at p a).points) (λ a. forward (record_at q a).points)
+pub arc_carried : (s : Classes) (p q : PlanData) (to : ℕ → ℕ) (turned : ℕ → Bool) → Carries s to turned p q → IsPreserved p Par to (λ a. forward (record_at p a).points) (λ a. forward (record_at q a).points)
 arc_carried s p q to turned c i h is = sym (one_direction (record_at p i).points (record_at q (to i)).points (either (turned i) (record_at p i).points (record_at q (to i)).points (c.each i h).points))
   where
     either : (t : Bool) (xs ys : List Point) → ys ≡ directed t xs → (ys ≡ xs) ⊎ (ys ≡ reverse xs)
@@ -50,7 +50,7 @@ role_twice true true r = exchanged_back r
 role_twice true false r = refl
 role_twice false u r = refl
 
-module _ (s : Classes) (p q : Drawing) (under : IsPlanUnder s p) (under' : IsPlanUnder s q) (none : IsNowhereBroken p 404) (to : ℕ → ℕ) (turned : ℕ → Bool) (c : Carries s to turned p q) where
+module _ (s : Classes) (p q : PlanData) (under : IsPlanUnder s p) (under' : IsPlanUnder s q) (none : IsNowhereBroken p 404) (to : ℕ → ℕ) (turned : ℕ → Bool) (c : Carries s to turned p q) where
   -- what isn't forward in the one plan and what isn't in the other differ by what is turned
   backward_carried : (i : ℕ) → IsPlace p i → is_backward p i ≡ differ (turned i) (is_backward q (to i))
   backward_carried i h = go (turned i) (is_arc (record_at p i).kind) refl refl ∙ ap (differ (turned i)) (sym there)
@@ -95,13 +95,13 @@ module _ (s : Classes) (p q : Drawing) (under : IsPlanUnder s p) (under' : IsPla
       go true e = plain_stays u (role_turned t a.role) (plain_turned t a.role ∙ e) ∙ (plain_stays t a.role e ∙ sym (plain_stays (has_turned_arc (is_backward p) a) a.role e))
       go false e = role_twice t u a.role ∙ ap (λ t. role_turned t a.role) (sym (both e))
 
-  long : (r : Drawing) → length (forward_plan r).list ≡ length r.list
+  long : (r : PlanData) → length (forward_plan r).list ≡ length r.list
   long r = turned_long (λ c. c) (is_backward r) 0 r.list
 
   before : (i : ℕ) → IsPlace (forward_plan p) i → IsPlace p i
   before i h = omega (arith, h, long p)
 
-  after : (r : Drawing) (i : ℕ) → IsPlace r i → record_at (forward_plan r) i ≡ turned_record (λ c. c) (is_backward r) i (record_at r i)
+  after : (r : PlanData) (i : ℕ) → IsPlace r i → record_at (forward_plan r) i ≡ turned_record (λ c. c) (is_backward r) i (record_at r i)
   after r i h = record_turned (λ c. c) (is_backward r) r i h
 
   ends_there : (i : ℕ) → IsPlace (forward_plan p) i → AllByRecursion (λ e. IsPlace (forward_plan p) e.target) (record_at (forward_plan p) i).ends
@@ -134,7 +134,7 @@ module _ (s : Classes) (p q : Drawing) (under : IsPlanUnder s p) (under' : IsPla
 
 -- objects
 
-pub object_carried : (s : Classes) (p q : Drawing) → IsWholePlan p → IsJoined p → (to : ℕ → ℕ) (turned : ℕ → Bool) → Carries s to turned p q
+pub object_carried : (s : Classes) (p q : PlanData) → IsWholePlan p → IsJoined p → (to : ℕ → ℕ) (turned : ℕ → Bool) → Carries s to turned p q
     → (number number' : ℕ → ℕ) → IsPreserved p Pno to number number' → IsPreserved p Par to number number' → IsPreserved p Pfe to number number' → IsPreserved p Fea to (object_key p number) (object_key q number')
 object_carried s p q whole joined to turned c number number' nodes arcs faces m h is =
     object_key_preserved p q whole to c.places (λ i l. kept_from s to turned i (record_at p i) (record_at q (to i)) (c.each i l)) number number' (λ t l. below t l (record_at p t).kind refl) m h (ap is_object is)
@@ -148,7 +148,7 @@ object_carried s p q whole joined to turned c number number' nodes arcs faces m 
     below t l Lnk e less = absurd (omega (arith, less))
 
 -- the keys of the objects are one where the numbers of the records are one
-pub object_keys_alike : (p : Drawing) → IsWholePlan p → IsJoined p → (number number' : ℕ → ℕ) → ((k : ℕ) → IsPlace p k → number' k ≡ number k) → map (object_key p number') (places_of Fea p) ≡ map (object_key p number) (places_of Fea p)
+pub object_keys_alike : (p : PlanData) → IsWholePlan p → IsJoined p → (number number' : ℕ → ℕ) → ((k : ℕ) → IsPlace p k → number' k ≡ number k) → map (object_key p number') (places_of Fea p) ≡ map (object_key p number) (places_of Fea p)
 object_keys_alike p whole joined number number' same =
     map_alike (λ k. IsPlace p k × ((record_at p k).kind ≡ Fea)) (object_key p number') (object_key p number)
     (λ k h. object_carried [] p p whole joined (λ i. i) (λ _. false) (carries_itself [] p) number number' (λ i l _. same i l) (λ i l _. same i l) (λ i l _. same i l) k h.0 h.1)

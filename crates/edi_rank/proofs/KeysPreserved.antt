@@ -9,7 +9,7 @@ use Rattle.edi_record.specs.declared.record.Kind.TheVariants.{Pno, Par, Pfe, Fea
 use Rattle.edi_schema.specs.Classes.{Classes}
 use Rattle.edi_schema.specs.Sorted.{sort_by}
 use Rattle.edi_record.specs.Records.{is_link}
-use Rattle.edi_plan.specs.Plans.{Drawing, record_at, blank, kind_rank, is_arc, is_object, first_of, rest_of, origin_of, others_of}
+use Rattle.edi_plan.specs.Plans.{PlanData, record_at, blank, kind_rank, is_arc, is_object, first_of, rest_of, origin_of, others_of}
 use Rattle.edi_plan.specs.Whole.{IsWholePlan}
 use Rattle.edi_plan.specs.declared.record.PlanRecord.{PlanRecord}
 use Rattle.edi_plan.specs.declared.record.PlanEnd.{PlanEnd}
@@ -54,7 +54,7 @@ pub counted_equal : {X : Type 0} (P : X → Type 0) (t u : X → Bool) → ((x :
 counted_equal P t u same [] all = refl
 counted_equal P t u same (x ∷ xs) all = count_by-cons t x xs ∙ (rw (same x all.0, counted_equal P t u same xs all.1) (sym (count_by-cons u x xs)))
 
-module _ (p q : Drawing) (ends_there : (i : ℕ) → i < length p.list → AllByRecursion (λ e. e.target < length p.list) (record_at p i).ends)
+module _ (p q : PlanData) (ends_there : (i : ℕ) → i < length p.list → AllByRecursion (λ e. e.target < length p.list) (record_at p i).ends)
     (to : ℕ → ℕ) (places : OneToOne to (length p.list) (length q.list))
     (kept : (i : ℕ) → i < length p.list → Kept to (record_at p i) (record_at q (to i))) where
   abbrev pub IsThere : PlanEnd → Type 0
@@ -177,13 +177,13 @@ below_object Pfe h g = omega arith
 below_object Fea h g = absurd (true≢false g)
 below_object Lnk h g = absurd (true≢false h)
 
-module _ (p q : Drawing) (whole : IsWholePlan p) (to : ℕ → ℕ) (places : OneToOne to (length p.list) (length q.list))
+module _ (p q : PlanData) (whole : IsWholePlan p) (to : ℕ → ℕ) (places : OneToOne to (length p.list) (length q.list))
     (kept : (i : ℕ) → i < length p.list → Kept to (record_at p i) (record_at q (to i)))
     (np nq : ℕ → ℕ) (below : (t : ℕ) → t < length p.list → kind_rank (record_at p t).kind < 3 → nq (to t) ≡ np t)
     (object : ℕ) (there : object < length p.list) (is : is_object (record_at p object).kind ≡ true)
     (class : (record_at q (to object)).class ≡ (record_at p object).class)
     (classes : (i : ℕ) → i < length p.list → is_piece p object (record_at p i) ≡ true → (record_at q (to i)).class ≡ (record_at p i).class) where
-  abbrev object_end : Drawing → PlanEnd → Bool
+  abbrev object_end : PlanData → PlanEnd → Bool
   object_end plan x = is_object (record_at plan x.target).kind
 
   same_object : (t : ℕ) → t < length p.list → nat_eq (to t) (to object) ≡ nat_eq t object

@@ -4,11 +4,11 @@ use Rattle.std.proofs.lemmas.Bool.{cases_eq}
 use Rattle.std.proofs.lemmas.List.{get_or-set_same, get_or-set_other}
 use Rattle.edi_record.specs.declared.record.Kind.{Kind}
 use Rattle.edi_plan.specs.Places.{places_of, member_of}
-use Rattle.edi_plan.specs.Plans.{Drawing, IsPlace, record_at}
+use Rattle.edi_plan.specs.Plans.{PlanData, IsPlace, record_at}
 use Rattle.edi_plan.proofs.PlaceLemmas.{place_there, place_of_kind, places_rise}
 use Rattle.edi_rank.proofs.RankedApart.{place_of_member}
 
-module _ (p : Drawing) (kind : Kind) where
+module _ (p : PlanData) (kind : Kind) where
   abbrev pub place_at : ℕ → ℕ
   place_at member = get_or (places_of kind p) member 0
 

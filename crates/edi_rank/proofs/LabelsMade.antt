@@ -16,7 +16,7 @@ use Rattle.edi_schema.specs.Sorted.{sort_by}
 use Rattle.edi_plan.specs.Joined.{IsJoined}
 use Rattle.edi_plan.specs.Places.{places_of, member_of}
 use Rattle.edi_record.specs.Records.{is_link}
-use Rattle.edi_plan.specs.Plans.{Drawing, IsPlace, record_at, is_arc, others_of}
+use Rattle.edi_plan.specs.Plans.{PlanData, IsPlace, record_at, is_arc, others_of}
 use Rattle.edi_plan.specs.Whole.{IsWholePlan}
 use Rattle.edi_plan.specs.declared.record.PlanRecord.{PlanRecord}
 use Rattle.edi_plan.specs.declared.record.PlanEnd.{PlanEnd}
@@ -49,14 +49,14 @@ use Rattle.edi_rank.proofs.SameLaws.{map_alike}
 use Rattle.edi_rank.proofs.Sided.{arc_is, least_equal}
 
 -- the numbers of the members of a kind, and their places by number
-pub record KindLabels (p : Drawing) (kind : Kind) (ranks order : List ℕ) : Type 0 where
+pub record KindLabels (p : PlanData) (kind : Kind) (ranks order : List ℕ) : Type 0 where
   pub each : NumbersEach ranks
   pub onto : (i : ℕ) → i < length (places_of kind p) → (m : ℕ) × (m < length (places_of kind p)) × (get_or ranks m 0 ≡ i + 1)
   pub ranks_long : length ranks ≡ length (places_of kind p)
   pub order_long : length order ≡ length (places_of kind p)
   pub placed : (m : ℕ) → m < length (places_of kind p) → get_or order (get_or ranks m 0 - 1) 0 ≡ get_or (places_of kind p) m 0
 
-pub one_member : (kind : Kind) (p : Drawing) (m n : ℕ) → m < length (places_of kind p) → n < length (places_of kind p) → get_or (places_of kind p) m 0 ≡ get_or (places_of kind p) n 0 → m ≡ n
+pub one_member : (kind : Kind) (p : PlanData) (m n : ℕ) → m < length (places_of kind p) → n < length (places_of kind p) → get_or (places_of kind p) m 0 ≡ get_or (places_of kind p) n 0 → m ≡ n
 one_member kind p m n h l e = go (cases_order m n)
   where
     go : (m ≡ n) ⊎ ((m < n) ⊎ (n < m)) → m ≡ n
@@ -64,7 +64,7 @@ one_member kind p m n h l e = go (cases_order m n)
     go (inr (inl less)) = absurd (omega (arith, e, places_rise kind p m n less l))
     go (inr (inr more)) = absurd (omega (arith, e, places_rise kind p n m more h))
 
-module _ (p : Drawing) (kind : Kind) (ranks order : List ℕ) (of : KindLabels p kind ranks order) where
+module _ (p : PlanData) (kind : Kind) (ranks order : List ℕ) (of : KindLabels p kind ranks order) where
   pub member_there : (k : ℕ) → IsPlace p k → (record_at p k).kind ≡ kind → (member_of p k < length (places_of kind p)) × (get_or (places_of kind p) (member_of p k) 0 ≡ k)
   member_there k h is = subst (λ kind. (member_of p k < length (places_of kind p)) × (get_or (places_of kind p) (member_of p k) 0 ≡ k)) is (place_of_member p k h)
 
@@ -107,7 +107,7 @@ ranks_of r Pfe = r.faces
 ranks_of r Fea = r.objects
 ranks_of r Lnk = r.links
 
-module _ (s : Classes) (p : Drawing) (whole : IsWholePlan p) (joined : IsJoined p) (sound : IsUnbroken (BreaksTopologyRule p)) (l : Labelling) (r : Ranked) (unlinked : List ℕ)
+module _ (s : Classes) (p : PlanData) (whole : IsWholePlan p) (joined : IsJoined p) (sound : IsUnbroken (BreaksTopologyRule p)) (l : Labelling) (r : Ranked) (unlinked : List ℕ)
     (all_numbered : length l.numbers ≡ length p.list) (all_directed : length l.turned ≡ length p.list) (directions : (k : ℕ) → IsPlace p k → turned_at l.turned k ≡ is_backward p k)
     (kinds : (kind : Kind) → KindLabels p kind (ranks_of r kind) (order_of l kind))
     (numbers : (k : ℕ) → IsPlace p k → number_of l k ≡ get_or (ranks_of r (record_at p k).kind) (member_of p k) 0)
@@ -115,7 +115,7 @@ module _ (s : Classes) (p : Drawing) (whole : IsWholePlan p) (joined : IsJoined 
     (by_node : IsNodeRanking p r.nodes) (by_arc : IsForwardRanking p r.arcs) (by_face : IsFaceRanking p r.arcs r.faces)
     (by_link : IsLinkRanking (record { plan = p; classes = s; turned = l.turned; numbers = unlinked }) r.links)
     (all_ordered : length l.others ≡ length p.list) (in_order : (k : ℕ) → IsPlace p k → OthersInOrder p (λ j. get_or unlinked j 0) l.others k) where
-  abbrev made : Drawing
+  abbrev made : PlanData
   made = turned_by s l p
 
   abbrev source : LinkSource
@@ -224,17 +224,17 @@ module _ (s : Classes) (p : Drawing) (whole : IsWholePlan p) (joined : IsJoined 
 
   -- links
 
-  abbrev Named : PlanEnd → Type 0
-  Named e = IsPlace p e.target × (is_link (record_at p e.target).kind ≡ false)
+  abbrev BelowLinks : PlanEnd → Type 0
+  BelowLinks e = IsPlace p e.target × (is_link (record_at p e.target).kind ≡ false)
 
-  end_stays : (e : PlanEnd) → Named e → numbered p (λ k. get_or unlinked k 0) e ≡ numbered made (number_of l) e
+  end_stays : (e : PlanEnd) → BelowLinks e → numbered p (λ k. get_or unlinked k 0) e ≡ numbered made (number_of l) e
   end_stays e h = ap₂ (λ kind n. record { kind = kind; number = n; sns = e.sns }) (sym (kind_made e.target h.0)) (sym (lower e.target h.0 h.1))
 
-  ends_stay : (ends : List PlanEnd) → AllByRecursion Named ends → ends_key p (λ k. get_or unlinked k 0) ends ≡ ends_key made (number_of l) ends
+  ends_stay : (ends : List PlanEnd) → AllByRecursion BelowLinks ends → ends_key p (λ k. get_or unlinked k 0) ends ≡ ends_key made (number_of l) ends
   ends_stay [] all = refl
-  ends_stay (e ∷ ends) all = ap₂ ◌∷◌ (end_stays e all.0) (ap (sort_by end_cmp) (map_alike Named (numbered p (λ k. get_or unlinked k 0)) (numbered made (number_of l)) end_stays ends all.1))
+  ends_stay (e ∷ ends) all = ap₂ ◌∷◌ (end_stays e all.0) (ap (sort_by end_cmp) (map_alike BelowLinks (numbered p (λ k. get_or unlinked k 0)) (numbered made (number_of l)) end_stays ends all.1))
 
-  ends_named : (k : ℕ) → IsPlace p k → AllByRecursion Named (record_at p k).ends
+  ends_named : (k : ℕ) → IsPlace p k → AllByRecursion BelowLinks (record_at p k).ends
   ends_named k h = two_hold (λ e. IsPlace p e.target) (λ e. is_link (record_at p e.target).kind ≡ false) (record_at p k).ends (whole.there k h) (whole.no_link k h)
 
   link_stays : (k : ℕ) → IsPlace p k → turned_link_key source k ≡ link_key made (number_of l) (record_at made k)
@@ -261,7 +261,7 @@ module _ (s : Classes) (p : Drawing) (whole : IsWholePlan p) (joined : IsJoined 
 
   others_ordered : (k : ℕ) → IsPlace p k → OthersInOrder p (number_of l) l.others k
   others_ordered k h = in_order_alike p (λ j. get_or unlinked j 0) (number_of l) (positions_at l.others k) (others_of (record_at p k))
-      (all_weaker Named (λ e. get_or unlinked e.target 0 ≡ number_of l e.target) (λ e named. sym (lower e.target named.0 named.1)) (others_of (record_at p k)) (rest_hold Named (record_at p k).ends (ends_named k h)))
+      (all_weaker BelowLinks (λ e. get_or unlinked e.target 0 ≡ number_of l e.target) (λ e below_links. sym (lower e.target below_links.0 below_links.1)) (others_of (record_at p k)) (rest_hold BelowLinks (record_at p k).ends (ends_named k h)))
       (in_order k h)
 
   pub labels_made : ((i k : ℕ) → Both made (number_of l) Fea i k → object_key_cmp (object_key made (number_of l) i) (object_key made (number_of l) k) ≡ Less) → AreLabels s p l
@@ -283,7 +283,7 @@ module _ (s : Classes) (p : Drawing) (whole : IsWholePlan p) (joined : IsJoined 
 
 -- a kind that is ranked
 
-pub kind_labels : {K : Type 0} (cmp : K → K → Ordering) → Rattle.std.specs.Cmp.IsTotalOrder cmp → (key : ℕ → K) (p : Drawing) (kind : Kind) (ranks order : List ℕ)
+pub kind_labels : {K : Type 0} (cmp : K → K → Ordering) → Rattle.std.specs.Cmp.IsTotalOrder cmp → (key : ℕ → K) (p : PlanData) (kind : Kind) (ranks order : List ℕ)
     → Rattle.edi_topo.specs.Ranking.IsRanking cmp key (length (places_of kind p)) ranks → length order ≡ length (places_of kind p)
     → ((m : ℕ) → m < length (places_of kind p) → get_or order (get_or ranks m 0 - 1) 0 ≡ get_or (places_of kind p) m 0) → KindLabels p kind ranks order
 kind_labels cmp total key p kind ranks order ranking long placed = record {

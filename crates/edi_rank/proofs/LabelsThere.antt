@@ -14,7 +14,7 @@ use Rattle.edi_schema.specs.Sorted.{sort_by}
 use Rattle.edi_schema.proofs.SortedLists.{IsPermutation-sort_by, NeverFalls-sort_by}
 use Rattle.edi_plan.specs.Joined.{IsJoined}
 use Rattle.edi_plan.specs.Places.{places_of, member_of}
-use Rattle.edi_plan.specs.Plans.{Drawing, IsPlace, record_at, is_object, others_of}
+use Rattle.edi_plan.specs.Plans.{PlanData, IsPlace, record_at, is_object, others_of}
 use Rattle.edi_plan.specs.Whole.{IsWholePlan}
 use Rattle.edi_plan.specs.declared.record.PlanEnd.{PlanEnd}
 use Rattle.edi_plan.proofs.Orders.{points_total, point_exact, exact_lists}
@@ -50,7 +50,7 @@ use Rattle.edi_rank.proofs.RankingsThere.{listed, length-listed, listed_at, sort
 
 -- ---- the other ends of a link
 
-module _ (p : Drawing) (number : ℕ → ℕ) where
+module _ (p : PlanData) (number : ℕ → ℕ) where
   derived_total : IsTotalOrder derived_pair_cmp
   derived_total = subst IsTotalOrder (λ i a b. sym (pair_order a b) i) pair_total
 
@@ -69,19 +69,19 @@ module _ (p : Drawing) (number : ℕ → ℕ) where
 -- ---- members of which no two have one key
 
 -- what tells the records of a type apart tells its members apart
-pub no_ties : {K : Type 0} (p : Drawing) (kind : Kind) (cmp : K → K → Ordering) → CmpEqualImpliesEq cmp → (by_place by_member : ℕ → K) → TellsTypeApart p kind by_place
+pub no_ties : {K : Type 0} (p : PlanData) (kind : Kind) (cmp : K → K → Ordering) → CmpEqualImpliesEq cmp → (by_place by_member : ℕ → K) → TellsTypeApart p kind by_place
     → ((m : ℕ) → m < length (places_of kind p) → by_member m ≡ by_place (get_or (places_of kind p) m 0)) → (m : ℕ) → ¬ (Ties cmp by_member (length (places_of kind p)) m)
 no_ties p kind cmp exact by_place by_member apart is m tie =
     let n = tie.1.0 in
     let less : n < length (places_of kind p) = omega (arith, tie.0, tie.1.1) in
     let same : by_place (get_or (places_of kind p) n 0) ≡ by_place (get_or (places_of kind p) m 0) = sym (is n less) ∙ (exact (by_member n) (by_member m) tie.1.2 ∙ is m tie.0) in
     let one : get_or (places_of kind p) n 0 ≡ get_or (places_of kind p) m 0 =
-        apart _ _ (place_there kind p n less) (place_there kind p m tie.0) (place_of_kind kind p n less) (place_of_kind kind p m tie.0) same in
+    apart _ _ (place_there kind p n less) (place_there kind p m tie.0) (place_of_kind kind p n less) (place_of_kind kind p m tie.0) same in
     omega (arith, one, places_rise kind p n m tie.1.1 tie.0)
 
 -- ---- the labels
 
-module _ (s : Classes) (p : Drawing) (whole : IsWholePlan p) (joined : IsJoined p) (sound : IsUnbroken (BreaksTopologyRule p)) (distinct : IsUnbroken (BreaksObjectRule p)) where
+module _ (s : Classes) (p : PlanData) (whole : IsWholePlan p) (joined : IsJoined p) (sound : IsUnbroken (BreaksTopologyRule p)) (distinct : IsUnbroken (BreaksObjectRule p)) where
   abbrev count : Kind → ℕ
   count kind = length (places_of kind p)
 
@@ -134,23 +134,23 @@ module _ (s : Classes) (p : Drawing) (whole : IsWholePlan p) (joined : IsJoined 
   }
 
   -- the numbers of nodes, arcs and faces, and then those of objects too, by place
-  abbrev unnamed : List ℕ
-  unnamed = listed (ranked p (ranks Pno nodes) (ranks Par arcs) (ranks Pfe faces)) (length p.list)
+  abbrev below_objects : List ℕ
+  below_objects = listed (ranked p (ranks Pno nodes) (ranks Par arcs) (ranks Pfe faces)) (length p.list)
 
-  unnamed_is : (k : ℕ) → IsPlace p k → get_or unnamed k 0 ≡ ranked p (ranks Pno nodes) (ranks Par arcs) (ranks Pfe faces) k
-  unnamed_is k h = listed_at (ranked p (ranks Pno nodes) (ranks Par arcs) (ranks Pfe faces)) (length p.list) k 0 h
+  lower_number_is : (k : ℕ) → IsPlace p k → get_or below_objects k 0 ≡ ranked p (ranks Pno nodes) (ranks Par arcs) (ranks Pfe faces) k
+  lower_number_is k h = listed_at (ranked p (ranks Pno nodes) (ranks Par arcs) (ranks Pfe faces)) (length p.list) k 0 h
 
-  pub tells_apart : TellsApart p (λ k. get_or unnamed k 0)
-  tells_apart = lower_apart p (ranks Pno nodes) (ranks Par arcs) (ranks Pfe faces) unnamed (rank_layer Pno nodes) (rank_layer Par arcs) (rank_layer Pfe faces) unnamed_is
+  pub tells_apart : TellsApart p (λ k. get_or below_objects k 0)
+  tells_apart = lower_apart p (ranks Pno nodes) (ranks Par arcs) (ranks Pfe faces) below_objects (rank_layer Pno nodes) (rank_layer Par arcs) (rank_layer Pfe faces) lower_number_is
 
   abbrev objects : Layer Fea
   objects = record {
     K = _;
     cmp = object_key_cmp;
     total = object_key_total;
-    key = λ m. object_key p (λ k. get_or unnamed k 0) (get_or (places_of Fea p) m 0);
-    apart = no_ties p Fea object_key_cmp object_key_exact (object_key p (λ k. get_or unnamed k 0)) (λ m. object_key p (λ k. get_or unnamed k 0) (get_or (places_of Fea p) m 0))
-        (one_object p whole distinct (λ k. get_or unnamed k 0) tells_apart) (λ m h. refl);
+    key = λ m. object_key p (λ k. get_or below_objects k 0) (get_or (places_of Fea p) m 0);
+    apart = no_ties p Fea object_key_cmp object_key_exact (object_key p (λ k. get_or below_objects k 0)) (λ m. object_key p (λ k. get_or below_objects k 0) (get_or (places_of Fea p) m 0))
+        (one_object p whole distinct (λ k. get_or below_objects k 0) tells_apart) (λ m h. refl);
   }
 
   abbrev lower : Ranked
@@ -209,8 +209,8 @@ module _ (s : Classes) (p : Drawing) (whole : IsWholePlan p) (joined : IsJoined 
   below : (k : ℕ) → IsPlace p k → is_link (record_at p k).kind ≡ false → get_or labels.numbers k 0 ≡ get_or unlinked k 0
   below k h e = number_is k h ∙ (ap (λ r. get_or r (member_of p k) 0) (same_below (record_at p k).kind e) ∙ sym (listed_at (number_in lower) (length p.list) k 0 h))
 
-  bare : (k : ℕ) → IsPlace p k → is_link (record_at p k).kind ≡ false → is_object (record_at p k).kind ≡ false → get_or labels.numbers k 0 ≡ get_or unnamed k 0
-  bare k h e f = number_is k h ∙ (sym (lower_ranked all (record_at p k).kind (member_of p k) (no_link (record_at p k).kind e) (no_object (record_at p k).kind f)) ∙ sym (unnamed_is k h))
+  bare : (k : ℕ) → IsPlace p k → is_link (record_at p k).kind ≡ false → is_object (record_at p k).kind ≡ false → get_or labels.numbers k 0 ≡ get_or below_objects k 0
+  bare k h e f = number_is k h ∙ (sym (lower_ranked all (record_at p k).kind (member_of p k) (no_link (record_at p k).kind e) (no_object (record_at p k).kind f)) ∙ sym (lower_number_is k h))
 
   pub are_labels : AreLabels s p labels
   are_labels = labels_made s p whole joined sound labels all unlinked (length-listed _ (length p.list)) (length-listed _ (length p.list))
@@ -218,4 +218,4 @@ module _ (s : Classes) (p : Drawing) (whole : IsWholePlan p) (joined : IsJoined 
       (length-listed _ (length p.list))
       (λ k h. subst (λ q. PutsInOrder p (λ j. get_or unlinked j 0) q (others_of (record_at p k))) (sym (listed_at (λ k. positions p (λ j. get_or unlinked j 0) (others_of (record_at p k))) (length p.list) k [] h))
       (puts_in_order p (λ j. get_or unlinked j 0) (others_of (record_at p k))))
-      (objects_rise s p whole joined labels (ranks Fea objects) (places Fea objects) unnamed bare (label_layer Fea objects) (λ k h e. number_is k h ∙ ap (λ kind. get_or (ranks_of all kind) (member_of p k) 0) e) (rank_layer Fea objects))
+      (objects_rise s p whole joined labels (ranks Fea objects) (places Fea objects) below_objects bare (label_layer Fea objects) (λ k h e. number_is k h ∙ ap (λ kind. get_or (ranks_of all kind) (member_of p k) 0) e) (rank_layer Fea objects))

@@ -4,7 +4,7 @@ use Rattle.edi_record.specs.Orders.{points_cmp}
 use Rattle.edi_record.specs.declared.record.Kind.{Kind}
 use Rattle.edi_record.specs.declared.record.Kind.TheVariants.{Pno, Par, Pfe, Fea, Lnk}
 use Rattle.edi_plan.specs.Places.{places_of, member_of}
-use Rattle.edi_plan.specs.Plans.{Drawing, IsPlace, record_at, is_object}
+use Rattle.edi_plan.specs.Plans.{PlanData, IsPlace, record_at, is_object}
 use Rattle.edi_plan.proofs.Orders.{points_total}
 use Rattle.edi_topo.specs.NodeKeys.{node_key_cmp, node_keys, no_node, IsNodeRanking}
 use Rattle.edi_topo.specs.Arcs.{forward_keys, IsForwardRanking}
@@ -18,7 +18,7 @@ use Rattle.edi_rank.proofs.RankedApart.{ranked_apart}
 use Rattle.edi_rank.proofs.Rankings.{ranks_each}
 
 -- numbers by place are those of the layers of nodes, arcs and faces
-abbrev AreLower : Drawing → List ℕ → List ℕ → List ℕ → List ℕ → Type 0
+abbrev AreLower : PlanData → List ℕ → List ℕ → List ℕ → List ℕ → Type 0
 AreLower p nodes arcs faces numbers = (k : ℕ) → IsPlace p k → get_or numbers k 0 ≡ ranked p nodes arcs faces k
 
 zero_for : (nodes arcs faces : List ℕ) (m : ℕ) (kind : Kind) → is_object kind ≡ true → number_by nodes arcs faces kind m ≡ 0
@@ -28,11 +28,11 @@ zero_for nodes arcs faces m Pfe f = absurd (true≢false (sym f))
 zero_for nodes arcs faces m Fea f = refl
 zero_for nodes arcs faces m Lnk f = absurd (true≢false (sym f))
 
-pub objects_zero : (p : Drawing) (nodes arcs faces numbers : List ℕ) → AreLower p nodes arcs faces numbers
+pub objects_zero : (p : PlanData) (nodes arcs faces numbers : List ℕ) → AreLower p nodes arcs faces numbers
     → (k : ℕ) → IsPlace p k → is_object (record_at p k).kind ≡ true → get_or numbers k 0 ≡ 0
 objects_zero p nodes arcs faces numbers lower k h object = lower k h ∙ zero_for nodes arcs faces (member_of p k) (record_at p k).kind object
 
-pub lower_apart : (p : Drawing) (nodes arcs faces numbers : List ℕ) → IsNodeRanking p nodes → IsForwardRanking p arcs → IsFaceRanking p arcs faces
+pub lower_apart : (p : PlanData) (nodes arcs faces numbers : List ℕ) → IsNodeRanking p nodes → IsForwardRanking p arcs → IsFaceRanking p arcs faces
     → AreLower p nodes arcs faces numbers → TellsApart p (λ k. get_or numbers k 0)
 lower_apart p nodes arcs faces numbers by_node by_arc by_face lower =
     let ranks = ranked_apart p nodes arcs faces

@@ -9,12 +9,12 @@ use Rattle.edi_schema.specs.Sorted.{sort_by}
 use Rattle.edi_schema.proofs.SortedLists.{sort_by-same, IsPermutation-sort_by, counts_from_permutation, count_by-cons, SameCounts}
 use Rattle.edi_plan.specs.Orders.{attribute_cmp}
 use Rattle.edi_record.specs.Records.{is_link}
-use Rattle.edi_plan.specs.Plans.{Drawing, IsPlace, record_at, blank, kind_rank, is_object, first_of, rest_of}
+use Rattle.edi_plan.specs.Plans.{PlanData, IsPlace, record_at, blank, kind_rank, is_object, first_of, rest_of}
 use Rattle.edi_plan.specs.Whole.{IsWholePlan}
 use Rattle.edi_plan.specs.declared.record.PlanRecord.{PlanRecord}
 use Rattle.edi_plan.specs.declared.record.PlanEnd.{PlanEnd}
 use Rattle.edi_plan.proofs.Orders.{attribute_total, attribute_exact}
-use Rattle.edi_rank.specs.EqualObjects.{Mark, mark, Piece, piece, pieces, SamePiece, SameUpTo, AreEqualObjects}
+use Rattle.edi_rank.specs.EqualObjects.{EndMark, end_mark, Piece, piece, pieces, SamePiece, SameUpTo, AreEqualObjects}
 use Rattle.edi_rank.specs.Keys.{end_cmp, link_key_cmp, numbered, ends_key, link_key, is_piece, marked, piece_by, object_key}
 use Rattle.edi_schema.specs.Classes.{Classes}
 use Rattle.edi_rank.specs.Labelling.{Labelling, AreLabels, order_of, number_of}
@@ -118,7 +118,7 @@ lower_rank Lnk h g = absurd (true≢false h)
 
 -- the key of a link, from the piece that it is
 
-abbrev target_kind : Drawing → Option ℕ → Kind
+abbrev target_kind : PlanData → Option ℕ → Kind
 target_kind p None = Fea
 target_kind p (Some t) = (record_at p t).kind
 
@@ -126,11 +126,11 @@ abbrev target_number : (ℕ → ℕ) → Option ℕ → ℕ
 target_number number None = 0
 target_number number (Some t) = number t
 
-module _ (p : Drawing) (number : ℕ → ℕ) where
-  abbrev mark_key : Mark → NumberedEnd
+module _ (p : PlanData) (number : ℕ → ℕ) where
+  abbrev mark_key : EndMark → NumberedEnd
   mark_key k = record { kind = target_kind p k.target; number = target_number number k.target; sns = k.sns }
 
-  abbrev piece_ends : Option Mark → List Mark → List NumberedEnd
+  abbrev piece_ends : Option EndMark → List EndMark → List NumberedEnd
   piece_ends None others = []
   piece_ends (Some k) others = mark_key k ∷ sort_by end_cmp (map mark_key others)
 
@@ -138,26 +138,26 @@ module _ (p : Drawing) (number : ℕ → ℕ) where
   piece_key a = record { class = a.class; ends = piece_ends a.origin a.others; attributes = sort_by attribute_cmp a.attributes; extras = a.extras }
 
   module _ (o : ℕ) (object : (record_at p o).kind ≡ Fea) where
-    mark_key_is : (e : PlanEnd) → mark_key (mark o e) ≡ numbered p (marked number o) e
+    mark_key_is : (e : PlanEnd) → mark_key (end_mark o e) ≡ numbered p (marked number o) e
     mark_key_is e = go (nat_eq e.target o) refl
       where
         key : Option ℕ → NumberedEnd
         key t = record { kind = target_kind p t; number = target_number number t; sns = e.sns }
 
-        named : ℕ → NumberedEnd
-        named n = record { kind = (record_at p e.target).kind; number = n; sns = e.sns }
+        below_links : ℕ → NumberedEnd
+        below_links n = record { kind = (record_at p e.target).kind; number = n; sns = e.sns }
 
-        go : (b : Bool) → nat_eq e.target o ≡ b → key (cond b None (Some e.target)) ≡ named (cond b 0 (number e.target))
+        go : (b : Bool) → nat_eq e.target o ≡ b → key (cond b None (Some e.target)) ≡ below_links (cond b 0 (number e.target))
         go true f =
             let own : Fea ≡ (record_at p e.target).kind = sym (ap (λ k. (record_at p k).kind) (eqb-true e.target o f) ∙ object) in
             λ i. record { kind = own i; number = 0; sns = e.sns }
         go false f = refl
 
-    marks_keyed : (xs : List PlanEnd) → map (numbered p (marked number o)) xs ≡ map mark_key (map (mark o) xs)
+    marks_keyed : (xs : List PlanEnd) → map (numbered p (marked number o)) xs ≡ map mark_key (map (end_mark o) xs)
     marks_keyed [] = refl
     marks_keyed (x ∷ xs) = ap₂ ◌∷◌ (sym (mark_key_is x)) (marks_keyed xs)
 
-    ends_keyed : (xs : List PlanEnd) → ends_key p (marked number o) xs ≡ piece_ends (option_map (mark o) (first_of xs)) (map (mark o) (rest_of xs))
+    ends_keyed : (xs : List PlanEnd) → ends_key p (marked number o) xs ≡ piece_ends (option_map (end_mark o) (first_of xs)) (map (end_mark o) (rest_of xs))
     ends_keyed [] = refl
     ends_keyed (x ∷ xs) = ap₂ ◌∷◌ (sym (mark_key_is x)) (ap (sort_by end_cmp) (marks_keyed xs))
 
@@ -175,7 +175,7 @@ module _ (p : Drawing) (number : ℕ → ℕ) where
 
   -- the same piece has the same key
 
-  ends_alike : (x : Option Mark) (ms ns : List Mark) → IsPermutation ms ns → piece_ends x ms ≡ piece_ends x ns
+  ends_alike : (x : Option EndMark) (ms ns : List EndMark) → IsPermutation ms ns → piece_ends x ms ≡ piece_ends x ns
   ends_alike None ms ns same = refl
   ends_alike (Some k) ms ns same =
       ap (λ ys. mark_key k ∷ ys) (sort_by-same end_cmp end_total end_exact (map mark_key ms) (map mark_key ns) (counts_from_permutation _ _ (IsPermutation-map mark_key _ _ same)))
@@ -206,10 +206,10 @@ module _ (p : Drawing) (number : ℕ → ℕ) where
   IsLower None = Unit {0}
   IsLower (Some t) = IsPlace p t × (kind_rank (record_at p t).kind < 3)
 
-  abbrev Known : Mark → Type 0
+  abbrev Known : EndMark → Type 0
   Known k = IsLower k.target
 
-  abbrev IsOrigin : Option Mark → List Mark → Type 0
+  abbrev IsOrigin : Option EndMark → List EndMark → Type 0
   IsOrigin None others = others ≡ []
   IsOrigin (Some k) others = Known k
 
@@ -223,13 +223,13 @@ module _ (p : Drawing) (number : ℕ → ℕ) where
     one_target (Some t) None h g k n = absurd (omega (arith, ap kind_rank k, h.1))
     one_target (Some t) (Some u) h g k n = ap Some (apart.apart t u h.0 g.0 k h.1 n)
 
-    one_mark : (x y : Mark) → Known x → Known y → mark_key x ≡ mark_key y → x ≡ y
+    one_mark : (x y : EndMark) → Known x → Known y → mark_key x ≡ mark_key y → x ≡ y
     one_mark x y h g e =
         let t = one_target x.target y.target h g (ap (λ (k : NumberedEnd). k.kind) e) (ap (λ (k : NumberedEnd). k.number) e) in
         let w = ap (λ (k : NumberedEnd). k.sns) e in
         λ i. record { target = t i; sns = w i }
 
-    ends_answered : (x y : Option Mark) (ms ns : List Mark) → IsOrigin x ms → IsOrigin y ns → AllByRecursion Known ms → AllByRecursion Known ns → piece_ends x ms ≡ piece_ends y ns → (x ≡ y) × IsPermutation ms ns
+    ends_answered : (x y : Option EndMark) (ms ns : List EndMark) → IsOrigin x ms → IsOrigin y ns → AllByRecursion Known ms → AllByRecursion Known ns → piece_ends x ms ≡ piece_ends y ns → (x ≡ y) × IsPermutation ms ns
     ends_answered None None ms ns h g all all' e = (refl, subst (IsPermutation ms) (h ∙ sym g) (IsPermutation-refl ms))
     ends_answered None (Some y) ms ns h g all all' e = cc
     ends_answered (Some x) None ms ns h g all all' e = cc
@@ -250,16 +250,16 @@ module _ (p : Drawing) (number : ℕ → ℕ) where
         }
 
     module _ (o : ℕ) (object : (record_at p o).kind ≡ Fea) where
-      lower_end : (e : PlanEnd) → IsPlace p e.target → is_link (record_at p e.target).kind ≡ false → (nat_eq e.target o ≡ false → is_object (record_at p e.target).kind ≡ false) → Known (mark o e)
+      lower_end : (e : PlanEnd) → IsPlace p e.target → is_link (record_at p e.target).kind ≡ false → (nat_eq e.target o ≡ false → is_object (record_at p e.target).kind ≡ false) → Known (end_mark o e)
       lower_end e there plain other = go (nat_eq e.target o) refl
         where
           go : (b : Bool) → nat_eq e.target o ≡ b → IsLower (cond b None (Some e.target))
           go true f = tt
           go false f = (there, lower_rank (record_at p e.target).kind plain (other f))
 
-      ends_known : (xs : List PlanEnd) → AllByRecursion (λ e. Known (mark o e)) xs → IsOrigin (option_map (mark o) (first_of xs)) (map (mark o) (rest_of xs)) × AllByRecursion Known (map (mark o) (rest_of xs))
+      ends_known : (xs : List PlanEnd) → AllByRecursion (λ e. Known (end_mark o e)) xs → IsOrigin (option_map (end_mark o) (first_of xs)) (map (end_mark o) (rest_of xs)) × AllByRecursion Known (map (end_mark o) (rest_of xs))
       ends_known [] all = (refl, tt)
-      ends_known (x ∷ xs) all = (all.0, all_mapped Known (mark o) xs all.1)
+      ends_known (x ∷ xs) all = (all.0, all_mapped Known (end_mark o) xs all.1)
 
       record_known : (k : ℕ) → IsPlace p k → is_piece p o (record_at p k) ≡ true → KnownPiece (piece o (record_at p k))
       record_known k h test =
@@ -267,7 +267,7 @@ module _ (p : Drawing) (number : ℕ → ℕ) where
           let parts = all_three (is_link (record_at p k).kind) (count_by (λ e. is_object (record_at p e.target).kind) xs == 1) (list_any (λ e. nat_eq e.target o) xs) test in
           let own = only_own (λ (e : PlanEnd). is_object (record_at p e.target).kind) (λ e. nat_eq e.target o) (λ e f. ap (λ j. is_object (record_at p j).kind) (eqb-true e.target o f) ∙ ap is_object object)
           xs (eqb-true _ _ parts.1) parts.2 in
-          ends_known xs (all_weaker (λ e. IsPlace p e.target × ((is_link (record_at p e.target).kind ≡ false) × (nat_eq e.target o ≡ false → is_object (record_at p e.target).kind ≡ false))) (λ e. Known (mark o e))
+          ends_known xs (all_weaker (λ e. IsPlace p e.target × ((is_link (record_at p e.target).kind ≡ false) × (nat_eq e.target o ≡ false → is_object (record_at p e.target).kind ≡ false))) (λ e. Known (end_mark o e))
           (λ e f. lower_end e f.0 f.1.0 f.1.1) xs (two_hold _ _ xs (whole.there k h) (two_hold _ _ xs (whole.no_link k h) own)))
 
       passing_known : (rs : List PlanRecord) → AllByRecursion (λ r. is_piece p o r ≡ true → KnownPiece (piece o r)) rs → AllByRecursion KnownPiece (filter_map (λ r. cond (is_piece p o r) (Some (piece o r)) None) rs)
@@ -299,7 +299,7 @@ module _ (p : Drawing) (number : ℕ → ℕ) where
         }
 
 -- one number in the order of a kind is that of one record
-pub labels_apart : (s : Classes) (p : Drawing) (l : Labelling) → AreLabels s p l → TellsApart p (number_of l)
+pub labels_apart : (s : Classes) (p : PlanData) (l : Labelling) → AreLabels s p l → TellsApart p (number_of l)
 labels_apart s p l labels = record {
   apart = λ i k h g kinds lower numbers.
       let both : Some i ≡ Some k = sym (labels.to_count i h) ∙ (ap₂ (λ kind n. slice_get (order_of l kind) (n - 1)) kinds numbers ∙ labels.to_count k g) in cc;

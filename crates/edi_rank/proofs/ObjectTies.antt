@@ -8,7 +8,7 @@ use Rattle.edi_record.specs.Orders.{extra_cmp}
 use Rattle.edi_record.specs.declared.record.Kind.TheVariants.{Fea}
 use Rattle.edi_plan.specs.Orders.{attribute_cmp}
 use Rattle.edi_plan.specs.Places.{places_of}
-use Rattle.edi_plan.specs.Plans.{Drawing}
+use Rattle.edi_plan.specs.Plans.{PlanData}
 use Rattle.edi_plan.specs.Whole.{IsWholePlan}
 use Rattle.edi_plan.proofs.Orders.{first_tied, then_tied, exact_lists, attribute_exact, extra_exact}
 use Rattle.edi_plan.proofs.PlaceLemmas.{place_there, place_of_kind, places_rise, has_place}
@@ -33,7 +33,7 @@ object_key_exact a b h =
     let x = exact_lists link_key_cmp link_key_exact a.pieces b.pieces (then_tied _ _ h2) in
     λ i. record { class = c i; attributes = t i; extras = e i; pieces = x i }
 
-module _ (p : Drawing) (whole : IsWholePlan p) (number : ℕ → ℕ) (apart : TellsApart p number) where
+module _ (p : PlanData) (whole : IsWholePlan p) (number : ℕ → ℕ) (apart : TellsApart p number) where
   abbrev pub object_place : ℕ → ℕ
   object_place m = get_or (places_of Fea p) m 0
 

@@ -16,11 +16,11 @@ use Rattle.edi_schema.specs.declared.role.Role.{Role}
 use Rattle.edi_schema.specs.declared.role.Role.TheVariants.{Initial, Final, Left, Right, Plain}
 use Rattle.edi_schema.proofs.SortedLists.{sort_by-same, IsPermutation-sort_by, counts_from_permutation, SameCounts}
 use Rattle.edi_record.specs.Records.{is_link}
-use Rattle.edi_plan.specs.Plans.{Drawing, IsPlace, record_at, blank, is_object, first_of, others_of}
+use Rattle.edi_plan.specs.Plans.{PlanData, IsPlace, record_at, blank, is_object, first_of, others_of}
 use Rattle.edi_plan.specs.Whole.{IsWholePlan}
 use Rattle.edi_plan.specs.declared.record.PlanRecord.{PlanRecord}
 use Rattle.edi_plan.specs.declared.record.PlanEnd.{PlanEnd}
-use Rattle.edi_rank.specs.EqualObjects.{Mark, mark, Piece, piece, pieces, SamePiece, SameUpTo, AreEqualObjects, BreaksObjectRule}
+use Rattle.edi_rank.specs.EqualObjects.{EndMark, end_mark, Piece, piece, pieces, SamePiece, SameUpTo, AreEqualObjects, BreaksObjectRule}
 use Rattle.edi_rank.specs.EqualObjects.BreaksObjectRule.{repeats_object}
 use Rattle.edi_rank.specs.Keys.{is_piece}
 use Rattle.edi_plan.specs.Joined.{beside, HasEnds, IsJoined}
@@ -143,7 +143,7 @@ piece_trans a b c h g = record {
 
 -- a piece, renamed
 
-abbrev moved_mark : (ℕ → ℕ) → Mark → Mark
+abbrev moved_mark : (ℕ → ℕ) → EndMark → EndMark
 moved_mark to m = record { target = option_map to m.target; sns = m.sns }
 
 abbrev moved_piece : (ℕ → ℕ) → Piece → Piece
@@ -160,19 +160,19 @@ moved_same to a b h = record {
 
 -- the places of the pieces of an object
 
-abbrev place_or_none : Drawing → ℕ → ℕ → Option ℕ
+abbrev place_or_none : PlanData → ℕ → ℕ → Option ℕ
 place_or_none p o j = cond (is_piece p o (record_at p j)) (Some j) None
 
-abbrev piece_places : Drawing → ℕ → List ℕ
+abbrev piece_places : PlanData → ℕ → List ℕ
 piece_places p o = filter_map (place_or_none p o) (places_from (length p.list) 0)
 
-pieces_placed : (p : Drawing) (o : ℕ) → pieces p o ≡ map (λ j. piece o (record_at p j)) (piece_places p o)
+pieces_placed : (p : PlanData) (o : ℕ) → pieces p o ≡ map (λ j. piece o (record_at p j)) (piece_places p o)
 pieces_placed p o = by_places (is_piece p o) (piece o) (record_at p) p.list 0 (λ i j e l. let f : j ≡ i = omega (arith, e) in ap (record_at p) f)
 
 all_within : (n : ℕ) → AllByRecursion (λ j. j < n) (places_from n 0)
 all_within n = all_places (λ j. j < n) (places_from n 0) 0 (λ i h. let l : i < n = omega (arith, h, places_long n 0) in omega (arith, l, place_here n i l))
 
-equal_back : (p : Drawing) (m n : ℕ) → AreEqualObjects p m n → AreEqualObjects p n m
+equal_back : (p : PlanData) (m n : ℕ) → AreEqualObjects p m n → AreEqualObjects p n m
 equal_back p m n a = record {
   first = a.second;
   second = a.first;
@@ -184,7 +184,7 @@ equal_back p m n a = record {
   pieces = up_to_sym SamePiece piece_sym (pieces p m) (pieces p n) a.pieces;
 }
 
-module _ (s : Classes) (p q : Drawing) (whole : IsWholePlan p) (joined : IsJoined p) (to : ℕ → ℕ) (turned : ℕ → Bool) (c : Carries s to turned p q) where
+module _ (s : Classes) (p q : PlanData) (whole : IsWholePlan p) (joined : IsJoined p) (to : ℕ → ℕ) (turned : ℕ → Bool) (c : Carries s to turned p q) where
   abbrev IsThere : PlanEnd → Type 0
   IsThere e = IsPlace p e.target
 
@@ -238,14 +238,14 @@ module _ (s : Classes) (p q : Drawing) (whole : IsWholePlan p) (joined : IsJoine
           let join = joined.joins i (record { there = h; is_link = link_then (record_at p i).kind parts.0; not_plain = e }) in
           absurd (neither join.arc join.other join.is_arc join.is_beside (met join.arc join.other join.ends))
 
-  mark_kept : (m : ℕ) → IsPlace p m → (e : PlanEnd) → IsThere e → mark (to m) (moved to e) ≡ moved_mark to (mark m e)
+  mark_kept : (m : ℕ) → IsPlace p m → (e : PlanEnd) → IsThere e → end_mark (to m) (moved to e) ≡ moved_mark to (end_mark m e)
   mark_kept m l e t = let same = same_place e.target m t l in rw same (ap (λ o. record { target = o; sns = e.sns }) (go (nat_eq e.target m)))
     where
       go : (b : Bool) → cond b None (Some (to e.target)) ≡ option_map to (cond b None (Some e.target))
       go true = refl
       go false = refl
 
-  first_kept : (m : ℕ) → IsPlace p m → (xs : List PlanEnd) → AllByRecursion IsThere xs → option_map (moved_mark to) (option_map (mark m) (first_of xs)) ≡ option_map (mark (to m)) (option_map (moved to) (first_of xs))
+  first_kept : (m : ℕ) → IsPlace p m → (xs : List PlanEnd) → AllByRecursion IsThere xs → option_map (moved_mark to) (option_map (end_mark m) (first_of xs)) ≡ option_map (end_mark (to m)) (option_map (moved to) (first_of xs))
   first_kept m l [] all = refl
   first_kept m l (x ∷ xs) all = ap Some (sym (mark_kept m l x all.0))
 
@@ -261,11 +261,11 @@ module _ (s : Classes) (p q : Drawing) (whole : IsWholePlan p) (joined : IsJoine
       let there = whole.there i h in
       record {
         class = sym (piece_class m i h object test);
-        origin = first_kept m l a.ends there ∙ sym (ap (option_map (mark (to m))) (c.each i h).origin);
-        others = subst (λ xs. IsPermutation xs (map (mark (to m)) (others_of b)))
-            (map-map (mark (to m)) (moved to) (others_of a) ∙ (map_alike IsThere (λ e. mark (to m) (moved to e)) (λ e. moved_mark to (mark m e)) (mark_kept m l) (others_of a) (all_others IsThere a.ends there)
-            ∙ sym (map-map (moved_mark to) (mark m) (others_of a))))
-            (IsPermutation-map (mark (to m)) _ _ (c.each i h).others);
+        origin = first_kept m l a.ends there ∙ sym (ap (option_map (end_mark (to m))) (c.each i h).origin);
+        others = subst (λ xs. IsPermutation xs (map (end_mark (to m)) (others_of b)))
+            (map-map (end_mark (to m)) (moved to) (others_of a) ∙ (map_alike IsThere (λ e. end_mark (to m) (moved to e)) (λ e. moved_mark to (end_mark m e)) (mark_kept m l) (others_of a) (all_others IsThere a.ends there)
+            ∙ sym (map-map (moved_mark to) (end_mark m) (others_of a))))
+            (IsPermutation-map (end_mark (to m)) _ _ (c.each i h).others);
         attributes = (c.each i h).attributes;
         extras = sym (c.each i h).extras;
       }
@@ -337,7 +337,7 @@ module _ (s : Classes) (p q : Drawing) (whole : IsWholePlan p) (joined : IsJoine
       go (inr (inl before)) = (501, suc (to n), repeats_object refl refl before (equal_preserved m n a))
       go (inr (inr behind)) = (501, suc (to m), repeats_object refl refl behind (equal_back q (to m) (to n) (equal_preserved m n a)))
 
-pub objects_preserved : (s : Classes) (p q : Drawing) → IsPlanUnder s p → IsPlanUnder s q → IsJoined p → Same s p q → IsUnbroken (BreaksObjectRule p) → IsUnbroken (BreaksObjectRule q)
+pub objects_preserved : (s : Classes) (p q : PlanData) → IsPlanUnder s p → IsPlanUnder s q → IsJoined p → Same s p q → IsUnbroken (BreaksObjectRule p) → IsUnbroken (BreaksObjectRule q)
 objects_preserved s p q under under' joined same none rule at broken = go broken
   where
     back : Same s q p

@@ -9,7 +9,7 @@ use Rattle.edi_schema.specs.Sorted.{sort_by}
 use Rattle.edi_schema.proofs.SortedLists.{count_by-cons}
 use Rattle.edi_plan.specs.Joined.{IsJoined, JoinsArc}
 use Rattle.edi_record.specs.Records.{is_link}
-use Rattle.edi_plan.specs.Plans.{Drawing, IsPlace, record_at, blank, is_object}
+use Rattle.edi_plan.specs.Plans.{PlanData, IsPlace, record_at, blank, is_object}
 use Rattle.edi_plan.specs.Whole.{IsWholePlan}
 use Rattle.edi_plan.specs.declared.record.PlanRecord.{PlanRecord}
 use Rattle.edi_plan.specs.declared.record.PlanEnd.{PlanEnd}
@@ -24,9 +24,9 @@ use Rattle.edi_rank.proofs.ObjectsPreserved.{all_three, link_then, no_object_bes
 use Rattle.edi_rank.proofs.SameLaws.{map_alike}
 use Rattle.edi_rank.proofs.TurnedRecords.{record_turned, turned_long}
 
-module _ (s : Classes) (p : Drawing) (whole : IsWholePlan p) (joined : IsJoined p) (l : Labelling) (number was : ℕ → ℕ)
+module _ (s : Classes) (p : PlanData) (whole : IsWholePlan p) (joined : IsJoined p) (l : Labelling) (number was : ℕ → ℕ)
     (same : (k : ℕ) → IsPlace p k → is_link (record_at p k).kind ≡ false → is_object (record_at p k).kind ≡ false → number k ≡ was k) where
-  abbrev made : Drawing
+  abbrev made : PlanData
   made = turned_by s l p
 
   abbrev turned : ℕ → Bool
@@ -38,7 +38,7 @@ module _ (s : Classes) (p : Drawing) (whole : IsWholePlan p) (joined : IsJoined 
   kind_made : (k : ℕ) → IsPlace p k → (record_at made k).kind ≡ (record_at p k).kind
   kind_made k h = ap (λ (r : PlanRecord). r.kind) (after k h)
 
-  abbrev object_end : Drawing → PlanEnd → Bool
+  abbrev object_end : PlanData → PlanEnd → Bool
   object_end q e = is_object (record_at q e.target).kind
 
   count_stays : (k : ℕ) → IsPlace p k → count_by (object_end made) (record_at p k).ends ≡ count_by (object_end p) (record_at p k).ends

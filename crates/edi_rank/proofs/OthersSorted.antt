@@ -14,7 +14,7 @@ use Rattle.edi_record.specs.declared.record.Kind.{Kind}
 use Rattle.edi_record.specs.declared.record.Kind.TheVariants.{Pno, Par, Pfe, Fea, Lnk}
 use Rattle.edi_schema.specs.Sorted.{NeverFalls, sort_by}
 use Rattle.edi_schema.proofs.SortedLists.{count_by-cons, counts_from_permutation, never_falls_from_sorted, same_order, NeverFalls-sort_by, IsPermutation-sort_by}
-use Rattle.edi_plan.specs.Plans.{Drawing, record_at, kind_rank, is_object, rest_of}
+use Rattle.edi_plan.specs.Plans.{PlanData, record_at, kind_rank, is_object, rest_of}
 use Rattle.edi_plan.specs.declared.record.PlanEnd.{PlanEnd}
 use Rattle.edi_plan.proofs.PlaceLemmas.{one_kind}
 use Rattle.edi_topo.specs.inner.Keyed.{keyed}
@@ -135,7 +135,7 @@ module _ {K : Type 0} (key : ℕ → K) (ends : List PlanEnd) where
       map-append (λ (pair : K × ℕ). end_at ends pair.1) (keyed key n) ((key n, n) ∷ [])
       ∙ (ap (λ xs. xs ++ end_at ends n ∷ []) (keyed_ends n (omega (arith, h))) ∙ sym (ap (λ m. take m ends) (sym (add-one n)) ∙ take_more ends n no_end (omega (arith, h))))
 
-module _ (p : Drawing) (number : ℕ → ℕ) (ends : List PlanEnd) where
+module _ (p : PlanData) (number : ℕ → ℕ) (ends : List PlanEnd) where
   abbrev end_key : ℕ → NumberedEnd
   end_key i = numbered p number (end_at ends i)
 
@@ -189,7 +189,7 @@ module _ (p : Drawing) (number : ℕ → ℕ) (ends : List PlanEnd) where
       ∙ sym (counts_from_permutation _ _ (IsPermutation-sort_by end_cmp end_total (map (numbered p number) ends)) test))
 
 -- the origin and the others in their order
-pub ends_keyed : (p : Drawing) (number : ℕ → ℕ) (order : List ℕ) (ends : List PlanEnd) (origin : PlanEnd) → 1 ≤ length ends → origin ≡ get_or ends 0 origin → PutsInOrder p number order (rest_of ends)
+pub ends_keyed : (p : PlanData) (number : ℕ → ℕ) (order : List ℕ) (ends : List PlanEnd) (origin : PlanEnd) → 1 ≤ length ends → origin ≡ get_or ends 0 origin → PutsInOrder p number order (rest_of ends)
     → numbered p number origin ∷ map (numbered p number) (ends_at order (take (length ends - 1) (drop 1 ends))) ≡ ends_key p number ends
 ends_keyed p number order [] origin some is puts = absurd (omega (arith, some))
 ends_keyed p number order (e ∷ ends) origin some is puts =
@@ -204,7 +204,7 @@ no_object Pfe h e = cc
 no_object Fea h e = true≢false h
 no_object Lnk h e = cc
 
-module _ (p : Drawing) (one other : ℕ → ℕ) where
+module _ (p : PlanData) (one other : ℕ → ℕ) where
   abbrev is_object_end : PlanEnd → Bool
   is_object_end e = is_object (record_at p e.target).kind
 

@@ -3,7 +3,7 @@ use Rattle.std.proofs.Common.{◌≡◌, ◌≢◌, ℕ, Bool, true, false, true
 use Rattle.std.specs.List.{AllByRecursion, list_any}
 use Rattle.std.specs.Option.{MatchOption}
 use Rattle.edi_record.specs.declared.record.Kind.TheVariants.{Lnk}
-use Rattle.edi_plan.specs.Plans.{Drawing, IsPlace, record_at, is_object}
+use Rattle.edi_plan.specs.Plans.{PlanData, IsPlace, record_at, is_object}
 use Rattle.edi_plan.specs.declared.record.PlanRecord.{PlanRecord}
 use Rattle.edi_plan.specs.declared.record.PlanEnd.{PlanEnd}
 use Rattle.edi_rank.specs.Keys.{is_piece}
@@ -16,7 +16,7 @@ nothing_found : {X : Type 0} (v : X → Bool) (xs : List X) → AllByRecursion (
 nothing_found v [] all some = true≢false (sym some)
 nothing_found v (x ∷ xs) all some = nothing_found v xs all.1 (sym (ap (λ b. b || list_any v xs) all.0) ∙ some)
 
-pub owner_is : (p : Drawing) (r : PlanRecord) (found : Option ℕ) → r.kind ≡ Lnk
+pub owner_is : (p : PlanData) (r : PlanRecord) (found : Option ℕ) → r.kind ≡ Lnk
     → MatchOption found (object_count p r.ends ≢ 1) (λ k. (object_count p r.ends ≡ 1) × IsPlace p k × (is_object (record_at p k).kind ≡ true) × (list_any (λ e. nat_eq e.target k) r.ends ≡ true))
     → (object : ℕ) → is_object (record_at p object).kind ≡ true → is_piece p object r ≡ is_owner found object
 owner_is p r None link other object is = rw (link, ne_eqb (object_count p r.ends) 1 other) refl

@@ -5,7 +5,7 @@ use Rattle.std.proofs.lemmas.Bool.{cases_eq}
 use Rattle.std.proofs.lemmas.List.{get_or-set_same, get_or-set_other, append_assoc}
 use Rattle.edi_schema.proofs.SortedLists.{count_by-cons}
 use Rattle.edi_plan.proofs.Built.{both_true}
-use Rattle.edi_plan.specs.Plans.{Drawing, IsPlace, record_at, blank, is_object, others_of, rest_of}
+use Rattle.edi_plan.specs.Plans.{PlanData, IsPlace, record_at, blank, is_object, others_of, rest_of}
 use Rattle.edi_plan.specs.declared.record.PlanRecord.{PlanRecord}
 use Rattle.edi_plan.specs.declared.record.PlanEnd.{PlanEnd}
 use Rattle.edi_rank.specs.Keys.{is_piece, marked, piece_by, link_key}
@@ -31,7 +31,7 @@ empties f [] all (suc k) = refl
 empties f (v ∷ vs) all zero = all.0
 empties f (v ∷ vs) all (suc k) = empties f vs all.1 k
 
-module _ (p : Drawing) (place : ℕ) (there : IsPlace p place) (lists : List (List ℕ))
+module _ (p : PlanData) (place : ℕ) (there : IsPlace p place) (lists : List (List ℕ))
     (so_far : (k : ℕ) → IsPlace p k → is_object (record_at p k).kind ≡ true → get_or lists k [] ++ pieces_from p k place (drop place p.list) ≡ piece_places p k) where
   abbrev after : ℕ → List ℕ
   after k = pieces_from p k (place + 1) (drop (place + 1) p.list)
@@ -59,7 +59,7 @@ module _ (p : Drawing) (place : ℕ) (there : IsPlace p place) (lists : List (Li
 
 -- the places of pieces are places, and their keys are those of the object's pieces
 
-module _ (p : Drawing) (o : ℕ) where
+module _ (p : PlanData) (o : ℕ) where
   there_from : (place : ℕ) (rs : List PlanRecord) → place + length rs ≤ length p.list → AllByRecursion (IsPlace p) (pieces_from p o place rs)
   there_from place [] h = tt
   there_from place (r ∷ rs) h = go (is_piece p o r) (there_from (place + 1) rs (omega (arith, h)))

@@ -15,7 +15,7 @@ use Rattle.edi_schema.specs.Classes.{Classes, role_of, partner_of}
 use Rattle.edi_schema.specs.Roles.{is_plain, exchanged}
 use Rattle.edi_schema.specs.declared.role.Role.{Role}
 use Rattle.edi_schema.specs.declared.role.Role.TheVariants.{Initial, Final, Left, Right, Plain}
-use Rattle.edi_plan.specs.Plans.{Drawing, IsPlace, record_at, is_arc, first_of, rest_of}
+use Rattle.edi_plan.specs.Plans.{PlanData, IsPlace, record_at, is_arc, first_of, rest_of}
 use Rattle.edi_plan.specs.Sides.{Side, targets}
 use Rattle.edi_plan.specs.Whole.{IsWholePlan}
 use Rattle.edi_plan.specs.Orders.{attribute_cmp}
@@ -148,10 +148,10 @@ palindrome_turned false a e = e
 palindrome_turned true a e = ap reverse e
 
 -- some rule is broken somewhere
-abbrev pub Broken : Drawing → Type 0
+abbrev pub Broken : PlanData → Type 0
 Broken p = (rule at : ℕ) × BreaksTopologyRule p rule at
 
-module _ (s : Classes) (p q : Drawing) (whole : IsWholePlan p) (to : ℕ → ℕ) (turned : ℕ → Bool) (c : Carries s to turned p q) where
+module _ (s : Classes) (p q : PlanData) (whole : IsWholePlan p) (to : ℕ → ℕ) (turned : ℕ → Bool) (c : Carries s to turned p q) where
   straight : (i : ℕ) → IsPlace p i → (kind : Kind) → (record_at p i).kind ≡ kind → is_arc kind ≡ false → turned i ≡ false
   straight i h kind is plain = not_true (turned i) (λ t. true≢false (ap is_arc (sym (c.arcs i h t)) ∙ (ap is_arc is ∙ plain)))
 
@@ -175,7 +175,7 @@ module _ (s : Classes) (p q : Drawing) (whole : IsWholePlan p) (to : ℕ → ℕ
       let attributes = sym (sort_by-same attribute_cmp attribute_total attribute_exact (record_at p i).attributes (record_at q (to i)).attributes (counts_from_permutation _ _ k.attributes)) in
       λ j. record { point = get_or (points j) 0 no_point; class = class j; attributes = attributes j; extras = k.extras j }
 
-module _ (s : Classes) (p q : Drawing) (under : IsPlanUnder s p) (under' : IsPlanUnder s q) (to : ℕ → ℕ) (turned : ℕ → Bool) (c : Carries s to turned p q) where
+module _ (s : Classes) (p q : PlanData) (under : IsPlanUnder s p) (under' : IsPlanUnder s q) (to : ℕ → ℕ) (turned : ℕ → Bool) (c : Carries s to turned p q) where
   kind_kept : (i : ℕ) → IsPlace p i → (record_at q (to i)).kind ≡ (record_at p i).kind
   kind_kept i h = (c.each i h).kind
 
@@ -372,7 +372,7 @@ module _ (s : Classes) (p q : Drawing) (under : IsPlanUnder s p) (under' : IsPla
 
 -- what q breaks, p breaks
 
-pub broken_before : (s : Classes) (p q : Drawing) → IsPlanUnder s p → IsPlanUnder s q → Same s p q → Same s q p → (rule at : ℕ) → BreaksTopologyRule q rule at → Broken p
+pub broken_before : (s : Classes) (p q : PlanData) → IsPlanUnder s p → IsPlanUnder s q → Same s p q → Same s q p → (rule at : ℕ) → BreaksTopologyRule q rule at → Broken p
 broken_before s p q under under' forth back rule at (starts_elsewhere e h) = starts_kept s q p under' under back.0 back.1 back.2 h.0 h.1 h.2 h.3 h.4 h.6 h.7 h.8 h.9
 broken_before s p q under under' forth back rule at (ends_elsewhere e h) = ends_elsewhere_kept s q p under' under back.0 back.1 back.2 h.0 h.1 h.2 h.3 h.4 h.6 h.7 h.8 h.9
 broken_before s p q under under' forth back rule at (repeats_node e h) = repeats_node_kept s q p under' under back.0 back.1 back.2 h.0 h.1 h.3 h.4
@@ -380,12 +380,12 @@ broken_before s p q under under' forth back rule at (equals_reverse e h) = equal
 broken_before s p q under under' forth back rule at (repeats_arc e h) = repeats_kept s q p under' under back.0 back.1 back.2 h.0 h.1 h.2 h.3 h.5 h.6 h.7 h.8
 broken_before s p q under under' forth back rule at (bounds_nothing e h) = unbounded_before s p q under under' forth.0 forth.1 forth.2 h.0 h.1 h.3 h.4
 
-pub topology_preserved : (s : Classes) (p q : Drawing) → IsPlanUnder s p → IsPlanUnder s q → Same s p q → IsUnbroken (BreaksTopologyRule p) → IsUnbroken (BreaksTopologyRule q)
+pub topology_preserved : (s : Classes) (p q : PlanData) → IsPlanUnder s p → IsPlanUnder s q → Same s p q → IsUnbroken (BreaksTopologyRule p) → IsUnbroken (BreaksTopologyRule q)
 topology_preserved s p q under under' same unbroken rule at broken =
     let before = broken_before s p q under under' same (same_sym s p q under under' same) rule at broken in
     unbroken before.0 before.1 before.2
 
-pub joins_kept : (s : Classes) (p q : Drawing) → IsPlanUnder s p → IsPlanUnder s q → Same s p q → IsJoined p → IsJoined q
+pub joins_kept : (s : Classes) (p q : PlanData) → IsPlanUnder s p → IsPlanUnder s q → Same s p q → IsJoined p → IsJoined q
 joins_kept s p q under under' same joined = record {
   joins = joins_on s p q under under' same.0 same.1 same.2 joined;
   one_side = let back = same_sym s p q under under' same in one_side_before s q p under' under back.0 back.1 back.2 joined;

@@ -4,7 +4,7 @@ use Rattle.edi_record.specs.declared.record.Kind.{Kind}
 use Rattle.edi_record.specs.declared.record.Kind.TheVariants.{Pno, Par, Pfe, Fea, Lnk}
 use Rattle.edi_schema.proofs.SortedLists.{count_by-cons}
 use Rattle.edi_plan.specs.Places.{places_from, places_of, member_of}
-use Rattle.edi_plan.specs.Plans.{Drawing, IsPlace, record_at, blank, kind_rank, same_kind}
+use Rattle.edi_plan.specs.Plans.{PlanData, IsPlace, record_at, blank, kind_rank, same_kind}
 use Rattle.edi_plan.specs.declared.record.PlanRecord.{PlanRecord}
 use Rattle.edi_rank.specs.Labelling.{NumbersEach}
 use Rattle.edi_rank.specs.Laws.{TellsApart}
@@ -28,12 +28,12 @@ member_from kind place (r ∷ rs) (suc i) m h is e =
     go false m e more = let d = more m (omega (arith, e)) in (d.0, omega (arith, d.1))
 
 -- the place of the member that a record is
-pub place_of_member : (p : Drawing) (k : ℕ) → IsPlace p k → (member_of p k < length (places_of (record_at p k).kind p)) × (get_or (places_of (record_at p k).kind p) (member_of p k) 0 ≡ k)
+pub place_of_member : (p : PlanData) (k : ℕ) → IsPlace p k → (member_of p k < length (places_of (record_at p k).kind p)) × (get_or (places_of (record_at p k).kind p) (member_of p k) 0 ≡ k)
 place_of_member p k h =
     let d = member_from (record_at p k).kind 0 p.list k (member_of p k) h (eq-eqb (kind_rank (record_at p k).kind) (kind_rank (record_at p k).kind) refl) refl in
     (d.0, omega (arith, d.1))
 
-pub ranked_apart : (p : Drawing) (nodes arcs faces : List ℕ) → NumbersEach nodes → length nodes ≡ length (places_of Pno p) → NumbersEach arcs → length arcs ≡ length (places_of Par p)
+pub ranked_apart : (p : PlanData) (nodes arcs faces : List ℕ) → NumbersEach nodes → length nodes ≡ length (places_of Pno p) → NumbersEach arcs → length arcs ≡ length (places_of Par p)
     → NumbersEach faces → length faces ≡ length (places_of Pfe p) → TellsApart p (ranked p nodes arcs faces)
 ranked_apart p nodes arcs faces by_node nodes_long by_arc arcs_long by_face faces_long = record {
   apart = λ i k h g kinds lower numbers.

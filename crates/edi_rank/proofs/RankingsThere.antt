@@ -116,7 +116,7 @@ module _ {K : Type 0} (cmp : K → K → Ordering) (total : IsTotalOrder cmp) (k
       let number : get_or ranking m 0 ≡ rank cmp key size m = listed_at (rank cmp key size) size m 0 h in
       let within : get_or ranking m 0 - 1 < size = omega (arith, number, rank_within cmp total key size m h) in
       let again : rank cmp key size (member_numbered (get_or ranking m 0 - 1)) ≡ rank cmp key size m =
-          omega (arith, number_is (get_or ranking m 0 - 1) within, number) in
+      omega (arith, number_is (get_or ranking m 0 - 1) within, number) in
       let there = numbered_within (get_or ranking m 0 - 1) within in
       let member : member_numbered (get_or ranking m 0 - 1) ≡ m = one_member (member_numbered (get_or ranking m 0 - 1)) m there h (equal_ranks cmp total key size (member_numbered (get_or ranking m 0 - 1)) m there h again) in
       listed_at (λ i. get_or places (member_numbered i) 0) size (get_or ranking m 0 - 1) 0 within ∙ ap (λ n. get_or places n 0) member

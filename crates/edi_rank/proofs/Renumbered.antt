@@ -12,7 +12,7 @@ use Rattle.edi_record.specs.declared.record.Kind.TheVariants.{Pno, Par, Pfe, Fea
 use Rattle.edi_schema.specs.Sorted.{insert_sorted, sort_by, NeverFalls}
 use Rattle.edi_schema.specs.declared.role.Role.{Role}
 use Rattle.edi_plan.specs.Orders.{attribute_cmp}
-use Rattle.edi_plan.specs.Plans.{Drawing, record_at, kind_rank, is_arc, first_of}
+use Rattle.edi_plan.specs.Plans.{PlanData, record_at, kind_rank, is_arc, first_of}
 use Rattle.edi_plan.specs.declared.record.PlanRecord.{PlanRecord}
 use Rattle.edi_plan.specs.declared.record.PlanEnd.{PlanEnd}
 use Rattle.edi_plan.proofs.PlaceLemmas.{one_kind}
@@ -119,7 +119,7 @@ module _ (off : Kind → ℕ) where
   pub faces_shift_cmp : (x y : Option FaceKey) → option_cmp face_key_cmp (option_map face_shift x) (option_map face_shift y) ≡ option_cmp face_key_cmp x y
   faces_shift_cmp = option-map face_key_cmp face_key_cmp face_shift face_shift_cmp
 
-  module _ (p : Drawing) where
+  module _ (p : PlanData) where
     -- the numbers, each further on by the step of its kind
     abbrev pub up : (ℕ → ℕ) → ℕ → ℕ
     up number t = shifted (off (record_at p t).kind) (number t)

@@ -8,7 +8,7 @@ use Rattle.edi_schema.specs.Roles.{exchanged}
 use Rattle.edi_schema.specs.declared.role.Role.{Role}
 use Rattle.edi_schema.specs.declared.role.Role.TheVariants.{Initial, Final, Left, Right, Plain}
 use Rattle.edi_plan.specs.Joined.{beside, IsJoined, HasEnds}
-use Rattle.edi_plan.specs.Plans.{Drawing, IsPlace, record_at, blank, is_arc}
+use Rattle.edi_plan.specs.Plans.{PlanData, IsPlace, record_at, blank, is_arc}
 use Rattle.edi_plan.specs.Sides.{Side}
 use Rattle.edi_plan.specs.Whole.{IsWholePlan}
 use Rattle.edi_plan.specs.declared.record.PlanRecord.{PlanRecord}
@@ -22,7 +22,7 @@ use Rattle.edi_rank.proofs.LeastSides.{IsLeastOf, PutBy, least_of_same, least_ga
 use Rattle.edi_rank.proofs.TurnedRecords.{record_turned, turned_long}
 
 -- the face is on a side of an arc, and the side has this key
-pub record OnSide (p : Drawing) (number : ℕ → ℕ) (face : ℕ) (key : FaceKey) : Type 0 where
+pub record OnSide (p : PlanData) (number : ℕ → ℕ) (face : ℕ) (key : FaceKey) : Type 0 where
   pub arc : ℕ
   pub role : Role
   pub is_side : (role ≡ Left) ⊎ (role ≡ Right)
@@ -130,14 +130,14 @@ turned_with turned (d ∷ e ∷ []) a x (inr g) none =
     ap₂ (λ b c. b || (c || false)) (ap turned first ∙ none) (ap turned second) ∙ the_second (turned a)
 
 -- an arc of this number and the face are the ends
-record HasArc (q : Drawing) (number : ℕ → ℕ) (face : ℕ) (ends : List PlanEnd) (n : ℕ) : Type 0 where
+record HasArc (q : PlanData) (number : ℕ → ℕ) (face : ℕ) (ends : List PlanEnd) (n : ℕ) : Type 0 where
   arc : ℕ
   there : IsPlace q arc
   is : is_arc (record_at q arc).kind ≡ true
   both : AreEnds ends arc face
   number_is : number arc ≡ n
 
-module _ (q : Drawing) (number : ℕ → ℕ) (face : ℕ) where
+module _ (q : PlanData) (number : ℕ → ℕ) (face : ℕ) where
   arc_from : (ends : List PlanEnd) (n : ℕ) → AllByRecursion (λ (e : PlanEnd). IsPlace q e.target) ends → arc_beside q number face ends ≡ Some n → HasArc q number face ends n
   arc_from [] n all e = cc
   arc_from (d ∷ []) n all e = cc
@@ -181,7 +181,7 @@ parts (Some s) (Some a) key e =
     let is : record { arc = a; side = s } ≡ key = cc in
     (ap (λ (k : FaceKey). Some k.side) is, ap (λ (k : FaceKey). Some k.arc) is)
 
-module _ (p : Drawing) (whole : IsWholePlan p) (joined : IsJoined p) where
+module _ (p : PlanData) (whole : IsWholePlan p) (joined : IsJoined p) where
   -- what has two ends is a link
   joins_two : (j a x : ℕ) → IsPlace p j → HasEnds p j a x → (record_at p j).kind ≡ Lnk
   joins_two j a x h ends = link ends
@@ -195,7 +195,7 @@ module _ (p : Drawing) (whole : IsWholePlan p) (joined : IsJoined p) where
       link (inr e) = go (record_at p j).ends (whole.ends j h) (ap length e)
 
   module _ (partner : ℕ → ℕ) (turned : ℕ → Bool) (same : (k : ℕ) → IsPlace p k → turned k ≡ is_backward p k) where
-    abbrev made : Drawing
+    abbrev made : PlanData
     made = turned_plan partner turned p
 
     places : (k : ℕ) → IsPlace p k → IsPlace made k

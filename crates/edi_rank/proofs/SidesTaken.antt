@@ -7,7 +7,7 @@ use Rattle.edi_schema.specs.declared.role.Role.{Role}
 use Rattle.edi_schema.specs.declared.role.Role.TheVariants.{Left, Right}
 use Rattle.edi_plan.specs.Joined.{IsJoined}
 use Rattle.edi_plan.specs.Places.{places_of}
-use Rattle.edi_plan.specs.Plans.{Drawing, IsPlace}
+use Rattle.edi_plan.specs.Plans.{PlanData, IsPlace}
 use Rattle.edi_plan.specs.Sides.{Side}
 use Rattle.edi_plan.specs.Whole.{IsWholePlan}
 use Rattle.edi_plan.proofs.PlaceLemmas.{has_place}
@@ -20,7 +20,7 @@ use Rattle.edi_rank.specs.inner.ArcSides.{side_key, lesser_of, IsTaken}
 use Rattle.edi_rank.proofs.LeastSides.{IsLeastOf, least_with, least_of_same, one_least}
 use Rattle.edi_rank.proofs.Sided.{OnSide, least_is_of}
 
-module _ (p : Drawing) (number : ℕ → ℕ) where
+module _ (p : PlanData) (number : ℕ → ℕ) where
   -- the face is on a side of one of the first n arcs
   abbrev pub OnSideBelow : ℕ → ℕ → FaceKey → Type 0
   OnSideBelow n face key = (on : OnSide p number face key) × (m : ℕ) × (m < n) × (get_or (places_of Par p) m 0 ≡ on.arc)

@@ -5,7 +5,7 @@ use Rattle.std.proofs.lemmas.List.{reverse-reverse}
 use Rattle.edi_record.specs.Orders.{point_cmp, points_cmp}
 use Rattle.edi_record.specs.declared.record.Point.{Point}
 use Rattle.edi_plan.proofs.Orders.{points_total, exact_lists, point_exact}
-use Rattle.edi_plan.specs.Plans.{Drawing, IsPlace, record_at, blank}
+use Rattle.edi_plan.specs.Plans.{PlanData, IsPlace, record_at, blank}
 use Rattle.edi_plan.specs.declared.record.PlanRecord.{PlanRecord}
 use Rattle.edi_rank.specs.Turned.{is_forward, turned_plan, turned_record, turned_from}
 
@@ -20,10 +20,10 @@ pub turned_long : (partner : ℕ → ℕ) (turned : ℕ → Bool) (place : ℕ) 
 turned_long partner turned place [] = refl
 turned_long partner turned place (r ∷ rs) = ap suc (turned_long partner turned (place + 1) rs)
 
-pub record_turned : (partner : ℕ → ℕ) (turned : ℕ → Bool) (p : Drawing) (i : ℕ) → IsPlace p i → record_at (turned_plan partner turned p) i ≡ turned_record partner turned i (record_at p i)
+pub record_turned : (partner : ℕ → ℕ) (turned : ℕ → Bool) (p : PlanData) (i : ℕ) → IsPlace p i → record_at (turned_plan partner turned p) i ≡ turned_record partner turned i (record_at p i)
 record_turned partner turned p i h = turned_there partner turned 0 p.list i h ∙ (let e : 0 + i ≡ i = omega arith in ap (λ k. turned_record partner turned k (record_at p i)) e)
 
-pub turned_place : (partner : ℕ → ℕ) (turned : ℕ → Bool) (p : Drawing) (i : ℕ) → IsPlace (turned_plan partner turned p) i → IsPlace p i
+pub turned_place : (partner : ℕ → ℕ) (turned : ℕ → Bool) (p : PlanData) (i : ℕ) → IsPlace (turned_plan partner turned p) i → IsPlace p i
 turned_place partner turned p i h = omega (arith, turned_long partner turned 0 p.list)
 
 -- of points that differ from their reverse, either they or the reverse are forward

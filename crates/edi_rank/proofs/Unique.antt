@@ -12,7 +12,7 @@ use Rattle.edi_record.specs.declared.record.Point.{Point}
 use Rattle.edi_schema.specs.Classes.{Classes, role_of}
 use Rattle.edi_schema.specs.Sorted.{NeverFalls}
 use Rattle.edi_record.specs.Records.{is_link}
-use Rattle.edi_plan.specs.Plans.{Drawing, record_at, blank, kind_rank, is_arc, is_object, first_of, rest_of, others_of}
+use Rattle.edi_plan.specs.Plans.{PlanData, record_at, blank, kind_rank, is_arc, is_object, first_of, rest_of, others_of}
 use Rattle.edi_plan.specs.declared.record.PlanRecord.{PlanRecord}
 use Rattle.edi_plan.specs.declared.record.PlanEnd.{PlanEnd}
 use Rattle.edi_rank.specs.Same.{moved, has_turned_arc, Carries}
@@ -82,12 +82,12 @@ less_then Greater h = absurd (true≢false (sym h))
 end_of : NumberedEnd → PlanEnd
 end_of k = record { target = pred k.number; sns = k.sns }
 
-ends_back : (p : Drawing) (xs : List PlanEnd) → map end_of (map (numbered p suc) xs) ≡ xs
+ends_back : (p : PlanData) (xs : List PlanEnd) → map end_of (map (numbered p suc) xs) ≡ xs
 unfolding end_of
 ends_back p [] = refl
 ends_back p (x ∷ xs) = ap (λ ys. x ∷ ys) (ends_back p xs)
 
-key_ends_back : (p : Drawing) (xs : List PlanEnd) → NeverFalls end_cmp (map (numbered p suc) (rest_of xs)) → map end_of (ends_key p suc xs) ≡ xs
+key_ends_back : (p : PlanData) (xs : List PlanEnd) → NeverFalls end_cmp (map (numbered p suc) (rest_of xs)) → map end_of (ends_key p suc xs) ≡ xs
 unfolding end_of
 key_ends_back p [] up = refl
 key_ends_back p (x ∷ xs) up = ap (λ ys. x ∷ ys) (ap (map end_of) (sort_by-in_order end_cmp end_total end_exact (map (numbered p suc) xs) up) ∙ ends_back p xs)
@@ -96,7 +96,7 @@ key_ends_back p (x ∷ xs) up = ap (λ ys. x ∷ ys) (ap (map end_of) (sort_by-i
 link_of : Classes → LinkKey → PlanRecord
 link_of s k = record { kind = Lnk; class = k.class; role = role_of s k.class; points = []; attributes = k.attributes; extras = k.extras; ends = map end_of k.ends }
 
-link_back : (s : Classes) (p : Drawing) (e : PlanRecord) → e.kind ≡ Lnk → e.role ≡ role_of s e.class → e.points ≡ [] → NeverFalls attribute_cmp e.attributes → NeverFalls end_cmp (map (numbered p suc) (others_of e)) → link_of s (link_key p suc e) ≡ e
+link_back : (s : Classes) (p : PlanData) (e : PlanRecord) → e.kind ≡ Lnk → e.role ≡ role_of s e.class → e.points ≡ [] → NeverFalls attribute_cmp e.attributes → NeverFalls end_cmp (map (numbered p suc) (others_of e)) → link_of s (link_key p suc e) ≡ e
 unfolding link_of
 link_back s p e kind role points attributes others =
     let x = key_ends_back p e.ends others in
@@ -115,10 +115,10 @@ is_link_then Lnk h = refl
 abbrev link_or_none : PlanRecord → Option PlanRecord
 link_or_none e = cond (is_link e.kind) (Some e) None
 
-abbrev key_or_none : Drawing → PlanRecord → Option LinkKey
+abbrev key_or_none : PlanData → PlanRecord → Option LinkKey
 key_or_none p e = cond (is_link e.kind) (Some (link_key p suc e)) None
 
-links_from_keys : (s : Classes) (p : Drawing) (es : List PlanRecord) → AllByRecursion (λ e. is_link e.kind ≡ true → link_of s (link_key p suc e) ≡ e) es → filter_map link_or_none es ≡ map (link_of s) (filter_map (key_or_none p) es)
+links_from_keys : (s : Classes) (p : PlanData) (es : List PlanRecord) → AllByRecursion (λ e. is_link e.kind ≡ true → link_of s (link_key p suc e) ≡ e) es → filter_map link_or_none es ≡ map (link_of s) (filter_map (key_or_none p) es)
 links_from_keys s p [] all = refl
 links_from_keys s p (e ∷ es) all = go (is_link e.kind) refl (links_from_keys s p es all.1)
   where
@@ -132,7 +132,7 @@ all_places P [] d h = tt
 all_places P (x ∷ xs) d h = (h 0 (omega arith), all_places P xs d (λ i l. h (suc i) (omega arith)))
 
 -- keys of links that never fall, from their places
-keys_never_fall : (p : Drawing) (es : List PlanRecord) (d : PlanRecord)
+keys_never_fall : (p : PlanData) (es : List PlanRecord) (d : PlanRecord)
     → ((i k : ℕ) → i < k → k < length es → (get_or es i d).kind ≡ Lnk → (get_or es k d).kind ≡ Lnk → is_gt (link_key_cmp (link_key p suc (get_or es i d)) (link_key p suc (get_or es k d))) ≡ false)
     → NeverFalls link_key_cmp (filter_map (key_or_none p) es)
 keys_never_fall p [] d up = tt
@@ -178,7 +178,7 @@ merged (e ∷ es) (f ∷ fs) d long plain alike links =
         let tails : filter_map link_or_none es ≡ filter_map link_or_none fs = rw (h, h') at same in
         ap₂ ◌∷◌ (sym (plain 0 (omega arith) h)) (more tails)
 
-module _ (s : Classes) (p q : Drawing) (up : IsInOrder p) (up' : IsInOrder q) (under : IsPlanUnder s p) (under' : IsPlanUnder s q) (to : ℕ → ℕ) (turned : ℕ → Bool) (c : Carries s to turned p q) where
+module _ (s : Classes) (p q : PlanData) (up : IsInOrder p) (up' : IsInOrder q) (under : IsPlanUnder s p) (under' : IsPlanUnder s q) (to : ℕ → ℕ) (turned : ℕ → Bool) (c : Carries s to turned p q) where
   abbrev kind_at : ℕ → Kind
   kind_at i = (record_at p i).kind
 

@@ -5,7 +5,7 @@ use Rattle.edi_record.specs.declared.record.Kind.{Kind}
 use Rattle.edi_record.specs.declared.record.Kind.TheVariants.{Pno, Par, Pfe, Fea, Lnk}
 use Rattle.edi_schema.specs.Classes.{Classes, partner_of}
 use Rattle.edi_schema.specs.Sorted.{sort_by}
-use Rattle.edi_plan.specs.Plans.{Drawing, record_at}
+use Rattle.edi_plan.specs.Plans.{PlanData, record_at}
 use Rattle.edi_plan.specs.declared.record.PlanRecord.{PlanRecord}
 use Rattle.edi_plan.specs.declared.record.PlanEnd.{PlanEnd}
 use Rattle.edi_rank.specs.Same.{moved, class_after, directed}
@@ -23,22 +23,22 @@ offset l Fea = length l.nodes + length l.arcs + length l.faces
 offset l Lnk = length l.nodes + length l.arcs + length l.faces + length l.objects
 
 -- where a record goes
-abbrev pub new_place : Labelling → Drawing → ℕ → ℕ
+abbrev pub new_place : Labelling → PlanData → ℕ → ℕ
 new_place l p place = offset l (record_at p place).kind + (number_of l place - 1)
 
 -- where the records come from, in their new order
 abbrev pub old_places : Labelling → List ℕ
 old_places l = l.nodes ++ l.arcs ++ l.faces ++ l.objects ++ l.links
 
-abbrev pub numbered_cmp : Drawing → (ℕ → ℕ) → PlanEnd → PlanEnd → Ordering
+abbrev pub numbered_cmp : PlanData → (ℕ → ℕ) → PlanEnd → PlanEnd → Ordering
 numbered_cmp p number d e = end_cmp (numbered p number d) (numbered p number e)
 
 -- the origin, and then the other ends in order
-abbrev pub ordered_ends : Drawing → (ℕ → ℕ) → List PlanEnd → List PlanEnd
+abbrev pub ordered_ends : PlanData → (ℕ → ℕ) → List PlanEnd → List PlanEnd
 ordered_ends p number [] = []
 ordered_ends p number (origin ∷ others) = origin ∷ sort_by (numbered_cmp p number) others
 
-abbrev pub arranged_record : Classes → Labelling → Drawing → ℕ → PlanRecord
+abbrev pub arranged_record : Classes → Labelling → PlanData → ℕ → PlanRecord
 arranged_record s l p place = record {
   kind = (record_at p place).kind;
   class = class_after (partner_of s) (turned_at l.turned) (record_at p place);
@@ -49,5 +49,5 @@ arranged_record s l p place = record {
   ends = map (moved (new_place l p)) (ordered_ends p (number_of l) (record_at p place).ends);
 }
 
-abbrev pub arranged : Classes → Labelling → Drawing → Drawing
+abbrev pub arranged : Classes → Labelling → PlanData → PlanData
 arranged s l p = record { cse = p.cse; list = map (arranged_record s l p) (old_places l) }

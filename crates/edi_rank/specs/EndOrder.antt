@@ -2,7 +2,7 @@
 use Rattle.std.specs.Prelude.{ℕ, ◌<◌, List, [], ◌∷◌, None, length, map, slice_index_or, IsPermutation}
 use Rattle.std.specs.List.{AllByRecursion}
 use Rattle.edi_schema.specs.Sorted.{NeverFalls}
-use Rattle.edi_plan.specs.Plans.{Drawing, record_at, others_of}
+use Rattle.edi_plan.specs.Plans.{PlanData, record_at, others_of}
 use Rattle.edi_plan.specs.declared.record.PlanEnd.{PlanEnd}
 use Rattle.edi_rank.specs.Keys.{end_cmp, numbered}
 
@@ -21,7 +21,7 @@ pub record GivesEach (positions : List ℕ) (ends : List PlanEnd) : Type 0 where
   pub each : IsPermutation ends (ends_at positions ends)
 
 -- by these positions the ends never fall
-abbrev pub PutsInOrder : Drawing → (ℕ → ℕ) → List ℕ → List PlanEnd → Type 0
+abbrev pub PutsInOrder : PlanData → (ℕ → ℕ) → List ℕ → List PlanEnd → Type 0
 PutsInOrder p number positions ends =
     GivesEach positions ends × NeverFalls end_cmp (map (numbered p number) (ends_at positions ends))
 
@@ -30,5 +30,5 @@ abbrev pub positions_at : List (List ℕ) → ℕ → List ℕ
 positions_at orders place = slice_index_or orders place []
 
 -- by these positions, by place, the other ends of the record at a place never fall
-abbrev pub OthersInOrder : Drawing → (ℕ → ℕ) → List (List ℕ) → ℕ → Type 0
+abbrev pub OthersInOrder : PlanData → (ℕ → ℕ) → List (List ℕ) → ℕ → Type 0
 OthersInOrder p number orders place = PutsInOrder p number (positions_at orders place) (others_of (record_at p place))

@@ -3,26 +3,26 @@ use Rattle.std.specs.Prelude.{◌≡◌, ℕ, suc, ◌<◌, ◌==◌, if◌then�
 use Rattle.std.specs.List.{AllZip, filter_map}
 use Rattle.edi_record.specs.declared.record.Extra.{Extra}
 use Rattle.edi_record.specs.declared.record.Kind.TheVariants.{Fea}
-use Rattle.edi_plan.specs.Plans.{Drawing, IsPlace, record_at, origin_of, others_of}
+use Rattle.edi_plan.specs.Plans.{PlanData, IsPlace, record_at, origin_of, others_of}
 use Rattle.edi_plan.specs.declared.record.PlanRecord.{PlanRecord}
 use Rattle.edi_plan.specs.declared.record.PlanAttribute.{PlanAttribute}
 use Rattle.edi_plan.specs.declared.record.PlanEnd.{PlanEnd}
 use Rattle.edi_rank.specs.Keys.{is_piece}
 
 -- an end as a piece has it: no target where it is the object itself
-pub record Mark : Type 0 where
+pub record EndMark : Type 0 where
   pub target : Option ℕ
   pub sns : Option (List ℕ)
 
 -- an end as a piece of the object has it
-abbrev pub mark : ℕ → PlanEnd → Mark
-mark object e = record { target = if e.target == object then None else Some e.target; sns = e.sns }
+abbrev pub end_mark : ℕ → PlanEnd → EndMark
+end_mark object e = record { target = if e.target == object then None else Some e.target; sns = e.sns }
 
 -- a link of which the object is the only end that is an object, as that object has it
 pub record Piece : Type 0 where
   pub class : ℕ
-  pub origin : Option Mark
-  pub others : List Mark
+  pub origin : Option EndMark
+  pub others : List EndMark
   pub attributes : List PlanAttribute
   pub extras : List Extra
 
@@ -31,14 +31,14 @@ abbrev pub piece : ℕ → PlanRecord → Piece
 piece object r =
     record {
       class = r.class;
-      origin = option_map (mark object) (origin_of r);
-      others = map (mark object) (others_of r);
+      origin = option_map (end_mark object) (origin_of r);
+      others = map (end_mark object) (others_of r);
       attributes = r.attributes;
       extras = r.extras;
     }
 
 -- the pieces of an object
-abbrev pub pieces : Drawing → ℕ → List Piece
+abbrev pub pieces : PlanData → ℕ → List Piece
 pieces p object = filter_map (λ r. if is_piece p object r then Some (piece object r) else None) p.list
 
 -- two pieces are one, whatever the order of their other ends and of their attributes
@@ -54,7 +54,7 @@ abbrev pub SameUpTo : {X : Type 0} → (X → X → Type 0) → List X → List 
 SameUpTo {X} R xs ys = (zs : List X) × IsPermutation ys zs × AllZip R xs zs
 
 -- two objects are equal
-pub record AreEqualObjects (p : Drawing) (m n : ℕ) : Type 0 where
+pub record AreEqualObjects (p : PlanData) (m n : ℕ) : Type 0 where
   pub first : IsPlace p m
   pub second : IsPlace p n
   pub first_object : (record_at p m).kind ≡ Fea
@@ -65,5 +65,5 @@ pub record AreEqualObjects (p : Drawing) (m n : ℕ) : Type 0 where
   pub pieces : SameUpTo SamePiece (pieces p m) (pieces p n)
 
 -- 501: an object equal to an earlier one, at a place from 1
-pub data BreaksObjectRule (p : Drawing) (rule at : ℕ) : Type 0 where
+pub data BreaksObjectRule (p : PlanData) (rule at : ℕ) : Type 0 where
   repeats_object : {m n : ℕ} → rule ≡ 501 → at ≡ suc n → m < n → AreEqualObjects p m n → BreaksObjectRule p rule at

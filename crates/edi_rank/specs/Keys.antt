@@ -12,7 +12,7 @@ use Rattle.edi_schema.specs.declared.role.Role.{Role}
 use Rattle.edi_schema.specs.declared.role.Role.TheVariants.{Initial, Final, Left, Right, Plain}
 use Rattle.edi_plan.specs.Orders.{attribute_cmp}
 use Rattle.edi_record.specs.Records.{is_link}
-use Rattle.edi_plan.specs.Plans.{Drawing, record_at, kind_rank, is_arc, is_object, first_of}
+use Rattle.edi_plan.specs.Plans.{PlanData, record_at, kind_rank, is_arc, is_object, first_of}
 use Rattle.edi_plan.specs.declared.record.PlanRecord.{PlanRecord}
 use Rattle.edi_plan.specs.declared.record.PlanEnd.{PlanEnd}
 use Rattle.edi_rank.specs.declared.keys.NumberedEnd.{NumberedEnd}
@@ -54,16 +54,16 @@ pub record IsPlainLink (r : PlanRecord) (origin other : PlanEnd) : Type 0 where
   pub extras : r.extras ≡ []
 
 -- an end, with the number of what it names
-abbrev pub numbered : Drawing → (ℕ → ℕ) → PlanEnd → NumberedEnd
+abbrev pub numbered : PlanData → (ℕ → ℕ) → PlanEnd → NumberedEnd
 numbered p number e = record { kind = (record_at p e.target).kind; number = number e.target; sns = e.sns }
 
 -- the origin, and then the other ends in order
-abbrev pub ends_key : Drawing → (ℕ → ℕ) → List PlanEnd → List NumberedEnd
+abbrev pub ends_key : PlanData → (ℕ → ℕ) → List PlanEnd → List NumberedEnd
 ends_key p number [] = []
 ends_key p number (origin ∷ others) = numbered p number origin ∷ sort_by end_cmp (map (numbered p number) others)
 
 -- a link by its class, its ends, its attributes in order and its extra zones
-abbrev pub link_key : Drawing → (ℕ → ℕ) → PlanRecord → LinkKey
+abbrev pub link_key : PlanData → (ℕ → ℕ) → PlanRecord → LinkKey
 link_key p number r = record {
   class = r.class;
   ends = ends_key p number r.ends;
@@ -82,7 +82,7 @@ side_of Right = Some Right
 side_of Plain = None
 
 -- the number of the arc, where one of two ends is an arc and the other is the face
-abbrev pub arc_beside : Drawing → (ℕ → ℕ) → ℕ → List PlanEnd → Option ℕ
+abbrev pub arc_beside : PlanData → (ℕ → ℕ) → ℕ → List PlanEnd → Option ℕ
 arc_beside p number face [] = None
 arc_beside p number face (d ∷ []) = None
 arc_beside p number face (d ∷ e ∷ []) =
@@ -91,23 +91,23 @@ arc_beside p number face (d ∷ e ∷ []) =
 arc_beside p number face (d ∷ e ∷ f ∷ ends) = None
 
 -- the side of an arc on which a record puts the face
-abbrev pub side_by : Drawing → (ℕ → ℕ) → ℕ → PlanRecord → Option FaceKey
+abbrev pub side_by : PlanData → (ℕ → ℕ) → ℕ → PlanRecord → Option FaceKey
 side_by p number face r =
     option_and_then (λ side. option_map (λ arc. record { arc = arc; side = side }) (arc_beside p number face r.ends))
     (side_of r.role)
 
 -- the sides of a face, the least first
-abbrev pub sides_of : Drawing → (ℕ → ℕ) → ℕ → List FaceKey
+abbrev pub sides_of : PlanData → (ℕ → ℕ) → ℕ → List FaceKey
 sides_of p number face = sort_by face_key_cmp (filter_map (side_by p number face) p.list)
 
 -- the least side of a face, if it has one
-abbrev pub least_side : Drawing → (ℕ → ℕ) → ℕ → Option FaceKey
+abbrev pub least_side : PlanData → (ℕ → ℕ) → ℕ → Option FaceKey
 least_side p number face = first_of (sides_of p number face)
 
 -- objects
 
 -- a link of which exactly one end is an object, that one
-abbrev pub is_piece : Drawing → ℕ → PlanRecord → Bool
+abbrev pub is_piece : PlanData → ℕ → PlanRecord → Bool
 is_piece p object r =
     is_link r.kind && (count_by (λ e. is_object (record_at p e.target).kind) r.ends == 1)
     && list_any (λ e. e.target == object) r.ends
@@ -117,11 +117,11 @@ abbrev pub marked : (ℕ → ℕ) → ℕ → ℕ → ℕ
 marked number object place = if place == object then 0 else number place
 
 -- a record as a piece of the object, if it is one
-abbrev pub piece_by : Drawing → (ℕ → ℕ) → ℕ → PlanRecord → Option LinkKey
+abbrev pub piece_by : PlanData → (ℕ → ℕ) → ℕ → PlanRecord → Option LinkKey
 piece_by p number object r = if is_piece p object r then Some (link_key p (marked number object) r) else None
 
 -- an object by its class, its attributes in order, its extra zones, and its pieces in order
-abbrev pub object_key : Drawing → (ℕ → ℕ) → ℕ → ObjectKey
+abbrev pub object_key : PlanData → (ℕ → ℕ) → ℕ → ObjectKey
 object_key p number object = record {
   class = (record_at p object).class;
   attributes = sort_by attribute_cmp (record_at p object).attributes;

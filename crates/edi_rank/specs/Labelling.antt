@@ -3,7 +3,7 @@ use Rattle.std.specs.Prelude.{◌≡◌, ℕ, ◌+◌, ◌-◌, ◌<◌, ◌≤�
 use Rattle.edi_record.specs.declared.record.Kind.{Kind}
 use Rattle.edi_record.specs.declared.record.Kind.TheVariants.{Pno, Par, Pfe, Fea, Lnk}
 use Rattle.edi_schema.specs.Classes.{Classes, partner_of}
-use Rattle.edi_plan.specs.Plans.{Drawing, IsPlace, record_at}
+use Rattle.edi_plan.specs.Plans.{PlanData, IsPlace, record_at}
 use Rattle.edi_rank.specs.Turned.{is_backward, turned_plan}
 use Rattle.edi_rank.specs.InOrder.{AllRise}
 use Rattle.edi_rank.specs.EndOrder.{OthersInOrder}
@@ -35,12 +35,12 @@ abbrev pub turned_at : List Bool → ℕ → Bool
 turned_at turned place = slice_index_or turned place false
 
 -- the plan with its arcs turned by the labels
-abbrev pub turned_by : Classes → Labelling → Drawing → Drawing
+abbrev pub turned_by : Classes → Labelling → PlanData → PlanData
 turned_by s l p = turned_plan (partner_of s) (turned_at l.turned) p
 
 -- The labels of a plan: the arcs that aren't forward are turned; the numbers of each type are 1 to their count, each
 -- once, and then the records rise; and the other ends of each link are put in their order.
-pub record AreLabels (s : Classes) (p : Drawing) (l : Labelling) : Type 0 where
+pub record AreLabels (s : Classes) (p : PlanData) (l : Labelling) : Type 0 where
   pub all_numbered : length l.numbers ≡ length p.list
   pub all_directed : length l.turned ≡ length p.list
   pub all_ordered : length l.others ≡ length p.list

@@ -90,23 +90,30 @@ impl Labels {
         let plan = sound.plan();
         let turned = turned_arcs(alloc, plan)?;
         let lower = lower_ranks(alloc, sound, &turned)?;
-        let unnamed = lower_numbers(alloc, plan, lower.nodes, lower.arcs, &lower.faces)?;
-        let named = name_objects(alloc, sound, unnamed)?;
-        let links = link_ranks(alloc, schema, plan, &turned, &named.numbers, &named.others)?;
+        let below_objects = lower_numbers(alloc, plan, lower.nodes, lower.arcs, &lower.faces)?;
+        let below_links = number_objects(alloc, sound, below_objects)?;
+        let links = link_ranks(
+            alloc,
+            schema,
+            plan,
+            &turned,
+            &below_links.numbers,
+            &below_links.others,
+        )?;
         let orders = orders_by_number(
             alloc,
             plan,
             lower.nodes,
             lower.arcs,
             &lower.faces,
-            &named.objects,
+            &below_links.objects,
             &links,
         )?;
-        let numbers = number_kind(plan, Kind::Lnk, &links, named.numbers);
+        let numbers = number_kind(plan, Kind::Lnk, &links, below_links.numbers);
         Ok(Labels {
             numbers: Sequence::from_vec(numbers),
             turned: Sequence::from_vec(turned),
-            others: Sequence::from_vec(named.others),
+            others: Sequence::from_vec(below_links.others),
             nodes: orders.nodes,
             arcs: orders.arcs,
             faces: orders.faces,
@@ -208,9 +215,9 @@ pub(crate) fn numbered_objects<'a>(
     let plan = sound.plan();
     let turned = turned_arcs(alloc, plan)?;
     let lower = lower_ranks(alloc, sound, &turned)?;
-    let unnamed = lower_numbers(alloc, plan, lower.nodes, lower.arcs, &lower.faces)?;
-    let orders = lower_orders(alloc, plan, &unnamed)?;
-    ObjectLayer::numbered(alloc, plan, unnamed, orders)
+    let below_objects = lower_numbers(alloc, plan, lower.nodes, lower.arcs, &lower.faces)?;
+    let orders = lower_orders(alloc, plan, &below_objects)?;
+    ObjectLayer::numbered(alloc, plan, below_objects, orders)
 }
 
 /// The numbers of the faces, in file order.
@@ -256,7 +263,7 @@ fn object_ranks(alloc: Global, sound: &Sound, layer: &ObjectLayer<'_>) -> Result
 /// The numbers of the objects, in file order; those of all records but the links, by place; and the
 /// positions of the other ends of each record in their order, by place.
 #[derive(Drop)]
-struct Named {
+struct BelowLinks {
     objects: Ranks,
     numbers: Vec<u32>,
     others: Vec<Sequence<usize>>,
@@ -264,21 +271,21 @@ struct Named {
 
 /// Numbers the objects and puts other ends in order, where the nodes, arcs and faces have these numbers, by place, and
 /// objects 0.
-fn name_objects(alloc: Global, sound: &Sound, numbers: Vec<u32>) -> Result<Named, RankFault>
+fn number_objects(alloc: Global, sound: &Sound, numbers: Vec<u32>) -> Result<BelowLinks, RankFault>
     requires numbers { length numbers.items ≡ length sound.now.list }
     requires objects { (k : ℕ) → IsPlace sound.now k → is_object (record_at sound.now k).kind ≡ true
         → slice_index_or numbers.items k 0 ≡ 0 }
     requires apart { TellsApart sound.now (slice_index numbers.items) }
-    ensures ranks { IfOk result (λ named.
-        IsObjectRanking (record { plan = sound.now; numbers = numbers.items }) named.objects) }
-    ensures length { IfOk result (λ named. length named.numbers.items ≡ length sound.now.list) }
-    ensures each { IfOk result (λ named. (k : ℕ) → IsPlace sound.now k → (record_at sound.now k).kind ≡ Fea
-        → slice_index named.numbers.items k ≡ slice_index named.objects (member_of sound.now k)) }
-    ensures rest { IfOk result (λ named. (k : ℕ) → IsPlace sound.now k → (record_at sound.now k).kind ≢ Fea
-        → slice_index named.numbers.items k ≡ slice_index numbers.items k) }
-    ensures ordered { IfOk result (λ named. length named.others.items ≡ length sound.now.list) }
-    ensures others { IfOk result (λ named. (k : ℕ) → IsPlace sound.now k
-        → OthersInOrder sound.now (slice_index named.numbers.items) named.others.items k) }
+    ensures ranks { IfOk result (λ below_links.
+        IsObjectRanking (record { plan = sound.now; numbers = numbers.items }) below_links.objects) }
+    ensures length { IfOk result (λ below_links. length below_links.numbers.items ≡ length sound.now.list) }
+    ensures each { IfOk result (λ below_links. (k : ℕ) → IsPlace sound.now k → (record_at sound.now k).kind ≡ Fea
+        → slice_index below_links.numbers.items k ≡ slice_index below_links.objects (member_of sound.now k)) }
+    ensures rest { IfOk result (λ below_links. (k : ℕ) → IsPlace sound.now k → (record_at sound.now k).kind ≢ Fea
+        → slice_index below_links.numbers.items k ≡ slice_index numbers.items k) }
+    ensures ordered { IfOk result (λ below_links. length below_links.others.items ≡ length sound.now.list) }
+    ensures others { IfOk result (λ below_links. (k : ℕ) → IsPlace sound.now k
+        → OthersInOrder sound.now (slice_index below_links.numbers.items) below_links.others.items k) }
     ensures distinct { OnOk result (IsUnbroken (BreaksObjectRule sound.now)) }
     ensures least { IfErr result (IsRecordRefusal (BreaksObjectRule sound.now)) }
 {
@@ -289,7 +296,7 @@ fn name_objects(alloc: Global, sound: &Sound, numbers: Vec<u32>) -> Result<Named
     let (numbers, lower) = layer.into_parts();
     let numbers = number_kind(plan, Kind::Fea, &objects, numbers);
     let others = all_orders(alloc, plan, &numbers, lower)?;
-    Ok(Named {
+    Ok(BelowLinks {
         objects,
         numbers,
         others,

@@ -2,7 +2,7 @@
 use Rattle.std.proofs.Common.{◌≡◌, ℕ, true, false, ◌||◌, List, [], ◌∷◌, ◌++◌, ◌≤◌, ◌<◌, ◌-◌, length, get_or, take, drop, arith, map, Option, Some, None, is_none, codes, bytes_eq, refl, sym, ap, ◌∙◌}
 use Rattle.std.specs.List.{list_any}
 use Rattle.std.proofs.lemmas.List.{take_all}
-use Rattle.edi_line.specs.Entry.{Entry, entry, entries}
+use Rattle.edi_line.specs.ZoneData.{ZoneData, entry, entries}
 use Rattle.edi_line.specs.declared.zone.Zone.{Zone}
 use Rattle.edi_record.specs.Texts.{PointerText}
 use Rattle.edi_record.specs.inner.Texts.{pointer}
@@ -10,15 +10,15 @@ use Rattle.edi_record.specs.Records.{opens, closes}
 use Rattle.edi_record.specs.inner.Records.{set_after, value_after, attribute, attributes}
 use Rattle.edi_record.specs.declared.record.Attribute.{Attribute}
 
-pub set_stops : (z : Entry) (zs : List Entry) → (opens z || closes z) ≡ true → None ≡ set_after (z ∷ zs)
+pub set_stops : (z : ZoneData) (zs : List ZoneData) → (opens z || closes z) ≡ true → None ≡ set_after (z ∷ zs)
 unfolding set_after
 set_stops z zs e = rw e refl
 
-pub set_found : (z : Entry) (zs : List Entry) → (opens z || closes z) ≡ false → bytes_eq z.code (codes "TEX") ≡ true → Some z.value ≡ set_after (z ∷ zs)
+pub set_found : (z : ZoneData) (zs : List ZoneData) → (opens z || closes z) ≡ false → bytes_eq z.code (codes "TEX") ≡ true → Some z.value ≡ set_after (z ∷ zs)
 unfolding set_after
 set_found z zs e f = rw (e, f) refl
 
-pub set_goes_on : (z : Entry) (zs : List Entry) → (opens z || closes z) ≡ false → bytes_eq z.code (codes "TEX") ≡ false → set_after zs ≡ set_after (z ∷ zs)
+pub set_goes_on : (z : ZoneData) (zs : List ZoneData) → (opens z || closes z) ≡ false → bytes_eq z.code (codes "TEX") ≡ false → set_after zs ≡ set_after (z ∷ zs)
 unfolding set_after
 set_goes_on z zs e f = rw (e, f) refl
 
@@ -26,15 +26,15 @@ pub set_none : None ≡ set_after []
 unfolding set_after
 set_none = refl
 
-pub value_stops : (z : Entry) (zs : List Entry) → opens z ≡ true → [] ≡ value_after (z ∷ zs)
+pub value_stops : (z : ZoneData) (zs : List ZoneData) → opens z ≡ true → [] ≡ value_after (z ∷ zs)
 unfolding value_after
 value_stops z zs e = rw e refl
 
-pub value_found : (z : Entry) (zs : List Entry) → opens z ≡ false → closes z ≡ true → z.value ≡ value_after (z ∷ zs)
+pub value_found : (z : ZoneData) (zs : List ZoneData) → opens z ≡ false → closes z ≡ true → z.value ≡ value_after (z ∷ zs)
 unfolding value_after
 value_found z zs e f = rw (e, f) refl
 
-pub value_goes_on : (z : Entry) (zs : List Entry) → opens z ≡ false → closes z ≡ false → value_after zs ≡ value_after (z ∷ zs)
+pub value_goes_on : (z : ZoneData) (zs : List ZoneData) → opens z ≡ false → closes z ≡ false → value_after zs ≡ value_after (z ∷ zs)
 unfolding value_after
 value_goes_on z zs e f = rw (e, f) refl
 
@@ -46,11 +46,11 @@ pub attributes_end : attributes [] ≡ []
 unfolding attributes
 attributes_end = refl
 
-pub attributes_skip : (z : Entry) (zs : List Entry) → opens z ≡ false → attributes (z ∷ zs) ≡ attributes zs
+pub attributes_skip : (z : ZoneData) (zs : List ZoneData) → opens z ≡ false → attributes (z ∷ zs) ≡ attributes zs
 unfolding attributes
 attributes_skip z zs e = rw e refl
 
-pub attributes_here : (z : Entry) (zs : List Entry) → opens z ≡ true → attributes (z ∷ zs) ≡ attribute z.value (set_after zs) (value_after zs) ∷ attributes zs
+pub attributes_here : (z : ZoneData) (zs : List ZoneData) → opens z ≡ true → attributes (z ∷ zs) ≡ attribute z.value (set_after zs) (value_after zs) ∷ attributes zs
 unfolding attributes
 attributes_here z zs e = rw e refl
 
@@ -66,15 +66,15 @@ nothing_left (x ∷ xs) none = absurd (omega arith)
 
 -- ---- an attribute
 
-abbrev attribute_made : PointerText → List Entry → Attribute
+abbrev attribute_made : PointerText → List ZoneData → Attribute
 attribute_made p zs = record { atp = record { rty = p.rty; rid = p.rid }; tex = set_after zs; atv = value_after zs }
 
-pub class_read : (z : Entry) (zs : List Entry) (text : List ℕ) (p : PointerText) → opens z ≡ true → text ≡ z.value → Some p ≡ pointer text → attributes (z ∷ zs) ≡ Some (attribute_made p zs) ∷ attributes zs
+pub class_read : (z : ZoneData) (zs : List ZoneData) (text : List ℕ) (p : PointerText) → opens z ≡ true → text ≡ z.value → Some p ≡ pointer text → attributes (z ∷ zs) ≡ Some (attribute_made p zs) ∷ attributes zs
 class_read z zs text p e same read =
     let found : pointer z.value ≡ Some p = ap pointer (sym same) ∙ sym read in
     attributes_here z zs e ∙ rw found refl
 
-pub no_class : (z : Entry) (zs : List Entry) (text : List ℕ) → opens z ≡ true → text ≡ z.value → None ≡ pointer text → attributes (z ∷ zs) ≡ None ∷ attributes zs
+pub no_class : (z : ZoneData) (zs : List ZoneData) (text : List ℕ) → opens z ≡ true → text ≡ z.value → None ≡ pointer text → attributes (z ∷ zs) ≡ None ∷ attributes zs
 no_class z zs text e same read =
     let found : pointer z.value ≡ None = ap pointer (sym same) ∙ sym read in
     attributes_here z zs e ∙ rw found refl

@@ -5,7 +5,7 @@ use Rattle.std.proofs.lemmas.Bool.{or_left, or_right}
 use Rattle.std.proofs.lemmas.Bool.Decides.{nat_tests}
 use Rattle.std.proofs.lemmas.List.{append-nil}
 use Rattle.std.proofs.lemmas.Slice.Eq.{bytes_eq-Decides}
-use Rattle.edi_line.specs.Entry.{Entry, has_code}
+use Rattle.edi_line.specs.ZoneData.{ZoneData, has_code}
 use Rattle.edi_record.specs.inner.Texts.{pointer}
 use Rattle.edi_record.specs.Texts.{shown}
 use Rattle.edi_record.specs.Records.{opens, closes}
@@ -19,21 +19,21 @@ use Rattle.edi_record.proofs.AttributesRead.{set_stops, set_found, set_goes_on, 
 use Rattle.edi_record.proofs.Loops.{stray_opens, stray_here, stray_closes, stray_skips, stray_end}
 use Rattle.edi_record.proofs.Parts.{bad_class, good_attributes}
 
-abbrev pub ends_set : Entry → Bool
+abbrev pub ends_set : ZoneData → Bool
 ends_set z = opens z || closes z
 
-abbrev sets_left : List Entry → ℕ
+abbrev sets_left : List ZoneData → ℕ
 sets_left zs = count_until ends_set (codes "TEX") zs
 
 -- ---- codes
 
-pub code_is : (z : Entry) (code : List ℕ) → has_code code z ≡ true → z.code ≡ code
+pub code_is : (z : ZoneData) (code : List ℕ) → has_code code z ≡ true → z.code ≡ code
 code_is z code e = (bytes_eq-Decides z.code code).0 e
 
-pub set_only : (z : Entry) → has_code (codes "TEX") z ≡ true → (opens z ≡ false) × (closes z ≡ false)
+pub set_only : (z : ZoneData) → has_code (codes "TEX") z ≡ true → (opens z ≡ false) × (closes z ≡ false)
 set_only z e = let same = code_is z (codes "TEX") e in (rw same refl, rw same refl)
 
-pub value_only : (z : Entry) → closes z ≡ true → (opens z ≡ false) × (has_code (codes "TEX") z ≡ false)
+pub value_only : (z : ZoneData) → closes z ≡ true → (opens z ≡ false) × (has_code (codes "TEX") z ≡ false)
 value_only z e = let same = code_is z (codes "ATV") e in (rw same refl, rw same refl)
 
 -- ---- lists
@@ -45,7 +45,7 @@ some_joined (x ∷ xs) ys more = ap (λ t. Some x ∷ t) (some_joined xs ys more
 -- ---- an open attribute that is closed
 
 -- where the zones have no character set for it, and this value
-closes_open : (zs : List Entry) (v : List ℕ) (o : Option OpenAttribute) → None ≡ set_after zs → v ≡ value_after zs → attributes_with o zs ≡ map Some (closed_with v o) ++ attributes zs
+closes_open : (zs : List ZoneData) (v : List ℕ) (o : Option OpenAttribute) → None ≡ set_after zs → v ≡ value_after zs → attributes_with o zs ≡ map Some (closed_with v o) ++ attributes zs
 closes_open zs v None set value = refl
 closes_open zs v (Some a) set value = rw (← value) (by_set (set_come a))
   where
@@ -53,13 +53,13 @@ closes_open zs v (Some a) set value = rw (← value) (by_set (set_come a))
     by_set (Some text) = refl
     by_set None = ap (λ s. Some (attribute_of a s v) ∷ attributes zs) (sym set)
 
-closed_in : (zs group : List Entry) (v : List ℕ) (o : Option OpenAttribute) (done new : List Attribute) → None ≡ set_after zs → v ≡ value_after zs → attributes group ≡ map Some done ++ attributes_with o zs
+closed_in : (zs group : List ZoneData) (v : List ℕ) (o : Option OpenAttribute) (done new : List Attribute) → None ≡ set_after zs → v ≡ value_after zs → attributes group ≡ map Some done ++ attributes_with o zs
     → new ≡ done ++ closed_with v o → attributes group ≡ map Some new ++ attributes zs
 closed_in zs group v o done new set value made pushed =
     made ∙ ap (λ t. map Some done ++ t) (closes_open zs v o set value) ∙ some_joined done (closed_with v o) (attributes zs) ∙ ap (λ t. map Some t ++ attributes zs) (sym pushed)
 
 -- nothing comes of a stretch that ends at once
-repeats_over : (zs : List Entry) (o : Option OpenAttribute) → sets_left zs ≡ 0 → repeats_with o zs ≡ repeats_with None zs
+repeats_over : (zs : List ZoneData) (o : Option OpenAttribute) → sets_left zs ≡ 0 → repeats_with o zs ≡ repeats_with None zs
 repeats_over zs None none = refl
 repeats_over zs (Some a) none = rw none (by_set (is_some a.set))
   where
@@ -67,15 +67,15 @@ repeats_over zs (Some a) none = rw none (by_set (is_some a.set))
     by_set true = refl
     by_set false = refl
 
-no_sets : (z : Entry) (zs : List Entry) → ends_set z ≡ true → sets_left (z ∷ zs) ≡ 0
+no_sets : (z : ZoneData) (zs : List ZoneData) → ends_set z ≡ true → sets_left (z ∷ zs) ≡ 0
 no_sets z zs e = rw e refl
 
-skips_repeat : (z : Entry) (zs : List Entry) → opens z ≡ false → repeats_with None (z ∷ zs) ≡ repeats_with None zs
+skips_repeat : (z : ZoneData) (zs : List ZoneData) → opens z ≡ false → repeats_with None (z ∷ zs) ≡ repeats_with None zs
 skips_repeat z zs e = rw e refl
 
 -- ---- the class of the next attribute
 
-pub class_taken : (old new : KeptAttributes) (class : Pointer) (z : Entry) (left group : List Entry) (text : List ℕ) → opens z ≡ true → z.value ≡ text → Some (shown class) ≡ pointer text
+pub class_taken : (old new : KeptAttributes) (class : Pointer) (z : ZoneData) (left group : List ZoneData) (text : List ℕ) → opens z ≡ true → z.value ≡ text → Some (shown class) ≡ pointer text
     → new.is_broken ≡ old.is_broken → new.opened ≡ Some (record { class = class; set = None }) → new.done ≡ old.done ++ closed_with [] old.opened
     → StoresAttributes old (z ∷ left) group → StoresAttributes new left group
 class_taken old new class z left group text e same read same_broken opened done h = record {
@@ -93,7 +93,7 @@ class_taken old new class z left group text e same read same_broken opened done 
     here = rw e refl
 
 -- whatever was kept, the rule is broken
-pub stays_broken : (old new : KeptAttributes) (zs left group : List Entry) → new.is_broken ≡ true → (old.is_broken ≡ false → has_bad_attribute group ≡ true) → StoresAttributes old zs group → StoresAttributes new left group
+pub stays_broken : (old new : KeptAttributes) (zs left group : List ZoneData) → new.is_broken ≡ true → (old.is_broken ≡ false → has_bad_attribute group ≡ true) → StoresAttributes old zs group → StoresAttributes new left group
 stays_broken old new zs left group broken found h = record {
   broken = λ b. by_old old.is_broken refl;
   made = λ b. let wrong : true ≡ false = sym broken ∙ b in absurd (cc);
@@ -105,7 +105,7 @@ stays_broken old new zs left group broken found h = record {
     by_old true e = h.broken e
     by_old false e = found e
 
-pub no_class_taken : (old new : KeptAttributes) (done : List Attribute) (z : Entry) (left group : List Entry) (text : List ℕ) → opens z ≡ true → z.value ≡ text → None ≡ pointer text
+pub no_class_taken : (old new : KeptAttributes) (done : List Attribute) (z : ZoneData) (left group : List ZoneData) (text : List ℕ) → opens z ≡ true → z.value ≡ text → None ≡ pointer text
     → new.is_broken ≡ true → done ≡ old.done ++ closed_with [] old.opened → StoresAttributes old (z ∷ left) group → StoresAttributes new left group
 no_class_taken old new done z left group text e same read broken pushed h = stays_broken old new (z ∷ left) left group broken (λ b. bad_class group (one_missing (attributes group) (attributes (z ∷ left)) (attributes left) done
     (closed_in (z ∷ left) group [] old.opened old.done done (set_stops z left (or_left _ _ e)) (value_stops z left e) (h.made b) pushed)
@@ -114,7 +114,7 @@ no_class_taken old new done z left group text e same read broken pushed h = stay
 -- ---- a character set
 
 -- of a zone that no attribute takes
-pub attributes_pass : (a : KeptAttributes) (z : Entry) (left group : List Entry) → opens z ≡ false → closes z ≡ false → (is_some a.opened && has_code (codes "TEX") z) ≡ false → StoresAttributes a (z ∷ left) group → StoresAttributes a left group
+pub attributes_pass : (a : KeptAttributes) (z : ZoneData) (left group : List ZoneData) → opens z ≡ false → closes z ≡ false → (is_some a.opened && has_code (codes "TEX") z) ≡ false → StoresAttributes a (z ∷ left) group → StoresAttributes a left group
 attributes_pass a z left group not_class not_value no_set h = record {
   broken = h.broken;
   made = λ b. h.made b ∙ ap (λ t. map Some a.done ++ t) (past a.opened no_set);
@@ -144,10 +144,10 @@ none_is (Some x) e = absurd cc
 pub one_more : (n : ℕ) → leb 2 (1 + n) ≡ leb 1 n
 one_more n = grind (arith, nat_tests)
 
-sets_more : (z : Entry) (left : List Entry) → has_code (codes "TEX") z ≡ true → sets_left (z ∷ left) ≡ 1 + sets_left left
+sets_more : (z : ZoneData) (left : List ZoneData) → has_code (codes "TEX") z ≡ true → sets_left (z ∷ left) ≡ 1 + sets_left left
 sets_more z left e = rw ((set_only z e).0, (set_only z e).1, e) refl
 
-pub set_taken : (old new : KeptAttributes) (o n : OpenAttribute) (z : Entry) (left group : List Entry) → has_code (codes "TEX") z ≡ true → old.opened ≡ Some o → is_some o.set ≡ false
+pub set_taken : (old new : KeptAttributes) (o n : OpenAttribute) (z : ZoneData) (left group : List ZoneData) → has_code (codes "TEX") z ≡ true → old.opened ≡ Some o → is_some o.set ≡ false
     → new.is_broken ≡ old.is_broken → new.done ≡ old.done → new.opened ≡ Some n → n.class ≡ o.class → set_come n ≡ Some z.value → is_some n.set ≡ true
     → StoresAttributes old (z ∷ left) group → StoresAttributes new left group
 set_taken old new o n z left group e was no_set same_broken same_done is class set some h = record {
@@ -176,7 +176,7 @@ set_taken old new o n z left group e was no_set same_broken same_done is class s
 
 -- ---- a value
 
-pub value_taken : (old new : KeptAttributes) (z : Entry) (left group : List Entry) (text : List ℕ) → closes z ≡ true → z.value ≡ text → is_some old.opened ≡ true
+pub value_taken : (old new : KeptAttributes) (z : ZoneData) (left group : List ZoneData) (text : List ℕ) → closes z ≡ true → z.value ≡ text → is_some old.opened ≡ true
     → new.is_broken ≡ old.is_broken → new.opened ≡ None → new.done ≡ old.done ++ closed_with text old.opened
     → StoresAttributes old (z ∷ left) group → StoresAttributes new left group
 value_taken old new z left group text e same was same_broken is done h = record {
@@ -189,14 +189,14 @@ value_taken old new z left group text e same was same_broken is done h = record 
       h.repeated (sym same_broken ∙ b) ∙ repeats_over (z ∷ left) old.opened (no_sets z left (or_right _ _ e)) ∙ skips_repeat z left (value_only z e).0 ∙ ap (λ t. repeats_with t left) (sym is);
 }
 
-pub stray_taken : (old new : KeptAttributes) (z : Entry) (left group : List Entry) → closes z ≡ true → is_some old.opened ≡ false → new.is_broken ≡ true → StoresAttributes old (z ∷ left) group → StoresAttributes new left group
+pub stray_taken : (old new : KeptAttributes) (z : ZoneData) (left group : List ZoneData) → closes z ≡ true → is_some old.opened ≡ false → new.is_broken ≡ true → StoresAttributes old (z ∷ left) group → StoresAttributes new left group
 stray_taken old new z left group e was broken h = stays_broken old new (z ∷ left) left group broken (λ b. or_right _ _ (or_left _ _ (h.stray b ∙ stray_here (is_some old.opened) z left e was))) h
 
 -- ---- all zones have come
 
-pub attributes_come : (a : KeptAttributes) (done : List Attribute) (group : List Entry) → a.is_broken ≡ false → done ≡ a.done ++ closed_with [] a.opened → StoresAttributes a [] group → attributes group ≡ map Some done
+pub attributes_come : (a : KeptAttributes) (done : List Attribute) (group : List ZoneData) → a.is_broken ≡ false → done ≡ a.done ++ closed_with [] a.opened → StoresAttributes a [] group → attributes group ≡ map Some done
 attributes_come a done group b closed h = closed_in [] group [] a.opened a.done done set_none value_none (h.made b) closed ∙ ap (λ t. map Some done ++ t) attributes_end ∙ append-nil (map Some done)
 
-pub attributes_sound : (a : KeptAttributes) (done : List Attribute) (group : List Entry) → a.is_broken ≡ false → done ≡ a.done ++ closed_with [] a.opened → StoresAttributes a [] group → has_bad_attribute group ≡ false
+pub attributes_sound : (a : KeptAttributes) (done : List Attribute) (group : List ZoneData) → a.is_broken ≡ false → done ≡ a.done ++ closed_with [] a.opened → StoresAttributes a [] group → has_bad_attribute group ≡ false
 attributes_sound a done group b closed h =
     good_attributes group done (list_any is_stray (placed false group)) (repeats_with None group) (attributes_come a done group b closed h) refl (h.stray b ∙ stray_end (is_some a.opened)) refl (h.repeated b ∙ repeats_over [] a.opened refl)

@@ -3,7 +3,7 @@ use Rattle.std.proofs.Common.{◌≡◌, ℕ, ◌+◌, ◌<◌, ◌≤◌, Bool,
 use Rattle.std.specs.List.{list_any}
 use Rattle.std.proofs.lemmas.Bool.{or_left, or_right}
 use Rattle.std.proofs.lemmas.List.{append-nil}
-use Rattle.edi_line.specs.Entry.{Entry, has_code}
+use Rattle.edi_line.specs.ZoneData.{ZoneData, has_code}
 use Rattle.edi_record.specs.inner.Texts.{pointer}
 use Rattle.edi_record.specs.Texts.{shown}
 use Rattle.edi_record.specs.Records.{is_link, points_at}
@@ -19,18 +19,18 @@ use Rattle.edi_record.proofs.AttributesRead.{one_missing}
 use Rattle.edi_record.proofs.Loops.{sns_none, sns_stops, sns_found, sns_goes_on, ends_end, ends_skip, end_read, no_end, stray_sns_goes_on}
 use Rattle.edi_record.proofs.Parts.{bad_target, bad_sns, few_ends, good_ends}
 
-abbrev senses_left : List Entry → ℕ
+abbrev senses_left : List ZoneData → ℕ
 senses_left zs = count_until points_at (codes "SNS") zs
 
-abbrev repeats_left : List Entry → Bool
+abbrev repeats_left : List ZoneData → Bool
 repeats_left zs = repeats points_at points_at (codes "SNS") zs
 
-pub sense_only : (z : Entry) → has_code (codes "SNS") z ≡ true → points_at z ≡ false
+pub sense_only : (z : ZoneData) → has_code (codes "SNS") z ≡ true → points_at z ≡ false
 sense_only z e = let same = code_is z (codes "SNS") e in rw same refl
 
 -- ---- an open end that is closed
 
-closes_end : (zs : List Entry) (o : Option OpenEnd) → None ≡ sns_after zs → ends_with o zs ≡ map Some (ended_with o) ++ ends zs
+closes_end : (zs : List ZoneData) (o : Option OpenEnd) → None ≡ sns_after zs → ends_with o zs ≡ map Some (ended_with o) ++ ends zs
 closes_end zs None sns = refl
 closes_end zs (Some a) sns = by_sns (sns_come a)
   where
@@ -38,11 +38,11 @@ closes_end zs (Some a) sns = by_sns (sns_come a)
     by_sns (Some text) = refl
     by_sns None = ap (λ s. Some (end_with a s) ∷ ends zs) (sym sns)
 
-ended_in : (zs group : List Entry) (o : Option OpenEnd) (done new : List End) → None ≡ sns_after zs → ends group ≡ map Some done ++ ends_with o zs → new ≡ done ++ ended_with o → ends group ≡ map Some new ++ ends zs
+ended_in : (zs group : List ZoneData) (o : Option OpenEnd) (done new : List End) → None ≡ sns_after zs → ends group ≡ map Some done ++ ends_with o zs → new ≡ done ++ ended_with o → ends group ≡ map Some new ++ ends zs
 ended_in zs group o done new sns made pushed = made ∙ ap (λ t. map Some done ++ t) (closes_end zs o sns) ∙ some_joined done (ended_with o) (ends zs) ∙ ap (λ t. map Some t ++ ends zs) (sym pushed)
 
 -- no SNS comes before these zones, and none in them for an open end
-sns_over : (zs : List Entry) (o : Option OpenEnd) → senses_left zs ≡ 0 → has_stray zs ≡ false → bad_sns_with o zs ≡ repeats_left zs
+sns_over : (zs : List ZoneData) (o : Option OpenEnd) → senses_left zs ≡ 0 → has_stray zs ≡ false → bad_sns_with o zs ≡ repeats_left zs
 sns_over zs None none stray = rw stray refl
 sns_over zs (Some a) none stray = rw none (by_sns (is_some a.sense))
   where
@@ -52,13 +52,13 @@ sns_over zs (Some a) none stray = rw none (by_sns (is_some a.sense))
 
 -- ---- the pointer of the next end
 
-no_senses : (z : Entry) (zs : List Entry) → points_at z ≡ true → senses_left (z ∷ zs) ≡ 0
+no_senses : (z : ZoneData) (zs : List ZoneData) → points_at z ≡ true → senses_left (z ∷ zs) ≡ 0
 no_senses z zs e = rw e refl
 
-no_stray : (z : Entry) (zs : List Entry) → points_at z ≡ true → has_stray (z ∷ zs) ≡ false
+no_stray : (z : ZoneData) (zs : List ZoneData) → points_at z ≡ true → has_stray (z ∷ zs) ≡ false
 no_stray z zs e = rw e refl
 
-pub pointer_taken : (old new : KeptEnds) (p : Pointer) (z : Entry) (left group : List Entry) (text : List ℕ) → points_at z ≡ true → z.value ≡ text → Some (shown p) ≡ pointer text
+pub pointer_taken : (old new : KeptEnds) (p : Pointer) (z : ZoneData) (left group : List ZoneData) (text : List ℕ) → points_at z ≡ true → z.value ≡ text → Some (shown p) ≡ pointer text
     → new.is_broken ≡ old.is_broken → new.opened ≡ Some (record { pointer = p; sense = None }) → new.done ≡ old.done ++ ended_with old.opened
     → StoresEnds old (z ∷ left) group → StoresEnds new left group
 pointer_taken old new p z left group text e same read same_broken opened done h = record {
@@ -74,7 +74,7 @@ pointer_taken old new p z left group text e same read same_broken opened done h 
     here = rw e refl
 
 -- whatever was stored, the rule is broken
-pub ends_broken : (old new : KeptEnds) (zs left group : List Entry) → new.is_broken ≡ true → (old.is_broken ≡ false → (list_any is_none (ends group) || bad_sns_with None group) ≡ true) → StoresEnds old zs group → StoresEnds new left group
+pub ends_broken : (old new : KeptEnds) (zs left group : List ZoneData) → new.is_broken ≡ true → (old.is_broken ≡ false → (list_any is_none (ends group) || bad_sns_with None group) ≡ true) → StoresEnds old zs group → StoresEnds new left group
 ends_broken old new zs left group broken found h = record {
   broken = λ b. by_old old.is_broken refl;
   made = λ b. let wrong : true ≡ false = sym broken ∙ b in absurd (cc);
@@ -85,7 +85,7 @@ ends_broken old new zs left group broken found h = record {
     by_old true e = h.broken e
     by_old false e = found e
 
-pub no_pointer_taken : (old new : KeptEnds) (done : List End) (z : Entry) (left group : List Entry) (text : List ℕ) → points_at z ≡ true → z.value ≡ text → None ≡ pointer text
+pub no_pointer_taken : (old new : KeptEnds) (done : List End) (z : ZoneData) (left group : List ZoneData) (text : List ℕ) → points_at z ≡ true → z.value ≡ text → None ≡ pointer text
     → new.is_broken ≡ true → done ≡ old.done ++ ended_with old.opened → StoresEnds old (z ∷ left) group → StoresEnds new left group
 no_pointer_taken old new done z left group text e same read broken pushed h = ends_broken old new (z ∷ left) left group broken (λ b. or_left _ _ (one_missing (ends group) (ends (z ∷ left)) (ends left) done
     (ended_in (z ∷ left) group old.opened old.done done (sns_stops z left e) (h.made b) pushed)
@@ -93,13 +93,13 @@ no_pointer_taken old new done z left group text e same read broken pushed h = en
 
 -- ---- an SNS
 
-senses_more : (z : Entry) (left : List Entry) → has_code (codes "SNS") z ≡ true → senses_left (z ∷ left) ≡ 1 + senses_left left
+senses_more : (z : ZoneData) (left : List ZoneData) → has_code (codes "SNS") z ≡ true → senses_left (z ∷ left) ≡ 1 + senses_left left
 senses_more z left e = rw (sense_only z e, e) refl
 
-skips_repeat : (z : Entry) (zs : List Entry) → points_at z ≡ false → repeats_left (z ∷ zs) ≡ repeats_left zs
+skips_repeat : (z : ZoneData) (zs : List ZoneData) → points_at z ≡ false → repeats_left (z ∷ zs) ≡ repeats_left zs
 skips_repeat z zs e = rw e refl
 
-pub sense_taken : (old new : KeptEnds) (o n : OpenEnd) (z : Entry) (left group : List Entry) → has_code (codes "SNS") z ≡ true → old.opened ≡ Some o → is_some o.sense ≡ false
+pub sense_taken : (old new : KeptEnds) (o n : OpenEnd) (z : ZoneData) (left group : List ZoneData) → has_code (codes "SNS") z ≡ true → old.opened ≡ Some o → is_some o.sense ≡ false
     → new.is_broken ≡ old.is_broken → new.done ≡ old.done → new.opened ≡ Some n → n.pointer ≡ o.pointer → sns_come n ≡ Some z.value → is_some n.sense ≡ true
     → StoresEnds old (z ∷ left) group → StoresEnds new left group
 sense_taken old new o n z left group e was no_sense same_broken same_done is class sense some h = record {
@@ -123,15 +123,15 @@ sense_taken old new o n z left group e was no_sense same_broken same_done is cla
     once : bad_sns_with (Some o) (z ∷ left) ≡ bad_sns_with (Some n) left
     once = rw (no_sense, some, senses_more z left e, skips_repeat z left (sense_only z e), one_more (senses_left left)) refl
 
-sns_here : (z : Entry) (zs : List Entry) → has_code (codes "SNS") z ≡ true → has_stray (z ∷ zs) ≡ true
+sns_here : (z : ZoneData) (zs : List ZoneData) → has_code (codes "SNS") z ≡ true → has_stray (z ∷ zs) ≡ true
 sns_here z zs e = rw (sense_only z e, one-add, e) refl
 
-pub stray_sense : (old new : KeptEnds) (z : Entry) (left group : List Entry) → has_code (codes "SNS") z ≡ true → old.opened ≡ None → new.is_broken ≡ true → StoresEnds old (z ∷ left) group → StoresEnds new left group
+pub stray_sense : (old new : KeptEnds) (z : ZoneData) (left group : List ZoneData) → has_code (codes "SNS") z ≡ true → old.opened ≡ None → new.is_broken ≡ true → StoresEnds old (z ∷ left) group → StoresEnds new left group
 stray_sense old new z left group e was broken h = ends_broken old new (z ∷ left) left group broken (λ b. or_right _ _ (h.sns b ∙ ap (λ o. bad_sns_with o (z ∷ left)) was ∙ or_left _ _ (sns_here z left e))) h
 
 -- ---- a zone that no end takes
 
-pub ends_pass : (a : KeptEnds) (z : Entry) (left group : List Entry) → points_at z ≡ false → has_code (codes "SNS") z ≡ false → StoresEnds a (z ∷ left) group → StoresEnds a left group
+pub ends_pass : (a : KeptEnds) (z : ZoneData) (left group : List ZoneData) → points_at z ≡ false → has_code (codes "SNS") z ≡ false → StoresEnds a (z ∷ left) group → StoresEnds a left group
 ends_pass a z left group not_end not_sense h = record {
   broken = h.broken;
   made = λ b. h.made b ∙ ap (λ t. map Some a.done ++ t) (past a.opened);
@@ -152,17 +152,17 @@ ends_pass a z left group not_end not_sense h = record {
 
 -- ---- all zones have come
 
-pub ends_come : (a : KeptEnds) (done : List End) (group : List Entry) → a.is_broken ≡ false → done ≡ a.done ++ ended_with a.opened → StoresEnds a [] group → ends group ≡ map Some done
+pub ends_come : (a : KeptEnds) (done : List End) (group : List ZoneData) → a.is_broken ≡ false → done ≡ a.done ++ ended_with a.opened → StoresEnds a [] group → ends group ≡ map Some done
 ends_come a done group b closed h = ended_in [] group a.opened a.done done sns_none (h.made b) closed ∙ ap (λ t. map Some done ++ t) ends_end ∙ append-nil (map Some done)
 
-pub ends_sound : (a : KeptEnds) (kind : Kind) (done : List End) (group : List Entry) → a.is_broken ≡ false → done ≡ a.done ++ ended_with a.opened → 2 ≤ length done → kind_in group ≡ Some kind → is_link kind ≡ true → StoresEnds a [] group → has_bad_end group ≡ false
+pub ends_sound : (a : KeptEnds) (kind : Kind) (done : List End) (group : List ZoneData) → a.is_broken ≡ false → done ≡ a.done ++ ended_with a.opened → 2 ≤ length done → kind_in group ≡ Some kind → is_link kind ≡ true → StoresEnds a [] group → has_bad_end group ≡ false
 ends_sound a kind done group b closed many k link h =
     good_ends kind group done (bad_sns_with None group) k link (ends_come a done group b closed h) many refl (h.sns b ∙ sns_over [] a.opened refl refl)
 
-pub ends_few : (a : KeptEnds) (kind : Kind) (done : List End) (group : List Entry) → a.is_broken ≡ false → done ≡ a.done ++ ended_with a.opened → length done < 2 → kind_in group ≡ Some kind → is_link kind ≡ true → StoresEnds a [] group → has_bad_end group ≡ true
+pub ends_few : (a : KeptEnds) (kind : Kind) (done : List End) (group : List ZoneData) → a.is_broken ≡ false → done ≡ a.done ++ ended_with a.opened → length done < 2 → kind_in group ≡ Some kind → is_link kind ≡ true → StoresEnds a [] group → has_bad_end group ≡ true
 ends_few a kind done group b closed few k link h = few_ends kind group done k link (ends_come a done group b closed h) few
 
-pub ends_bad : (a : KeptEnds) (kind : Kind) (group : List Entry) → a.is_broken ≡ true → kind_in group ≡ Some kind → is_link kind ≡ true → StoresEnds a [] group → has_bad_end group ≡ true
+pub ends_bad : (a : KeptEnds) (kind : Kind) (group : List ZoneData) → a.is_broken ≡ true → kind_in group ≡ Some kind → is_link kind ≡ true → StoresEnds a [] group → has_bad_end group ≡ true
 ends_bad a kind group b k link h = by_pointer (list_any is_none (ends group)) refl (h.broken b)
   where
     by_pointer : (p : Bool) → list_any is_none (ends group) ≡ p → (p || bad_sns_with None group) ≡ true → has_bad_end group ≡ true

@@ -5,7 +5,7 @@ use Rattle.std.proofs.lemmas.Bool.{ltb-true, ltb-false, or_parts}
 use Rattle.std.specs.Prelude.{codes, option_and_then}
 use Rattle.std.proofs.lemmas.List.{take_all}
 use Rattle.std.proofs.lemmas.List.Sums.{prefix_len-le-length}
-use Rattle.edi_line.specs.Entry.{Entry, entry, entries, has_code, first}
+use Rattle.edi_line.specs.ZoneData.{ZoneData, entry, entries, has_code, first}
 use Rattle.edi_record.specs.Records.{values, group_at}
 use Rattle.edi_line.specs.Zones.{begins_group, ends_group, before_end, groups_of}
 use Rattle.edi_line.specs.declared.zone.Zone.{Zone}
@@ -52,15 +52,15 @@ place_at_None p xs e = omega (arith, no_position p xs e, prefix_len-le-length (�
 
 -- ---- values
 
-pub value_here : (code : List ℕ) (z : Entry) (zs : List Entry) (value : List ℕ) → has_code code z ≡ true → value ≡ z.value → values code (z ∷ zs) ≡ value ∷ values code zs
+pub value_here : (code : List ℕ) (z : ZoneData) (zs : List ZoneData) (value : List ℕ) → has_code code z ≡ true → value ≡ z.value → values code (z ∷ zs) ≡ value ∷ values code zs
 value_here code z zs value e same = rw (e, same) refl
 
-pub value_skipped : (code : List ℕ) (z : Entry) (zs : List Entry) → has_code code z ≡ false → values code (z ∷ zs) ≡ values code zs
+pub value_skipped : (code : List ℕ) (z : ZoneData) (zs : List ZoneData) → has_code code z ≡ false → values code (z ∷ zs) ≡ values code zs
 value_skipped code z zs e = rw e refl
 
 -- ---- a group holds one type
 
-none_before : (zs : List Entry) → values (codes "RTY") (before_end zs) ≡ []
+none_before : (zs : List ZoneData) → values (codes "RTY") (before_end zs) ≡ []
 none_before [] = refl
 none_before (z ∷ zs) = go (ends_group z) refl (begins_group z) refl (none_before zs)
   where
@@ -69,7 +69,7 @@ none_before (z ∷ zs) = go (ends_group z) refl (begins_group z) refl (none_befo
     go false e true f more = let wrong : true ≡ false = sym (ap (λ b. b || has_code (codes "EOM") z) f) ∙ e in absurd (cc)
     go false e false f more = rw (e, f) more
 
-pub one_type : (z : Entry) (zs : List Entry) → begins_group z ≡ true → length (values (codes "RTY") (z ∷ before_end zs)) ≡ 1
+pub one_type : (z : ZoneData) (zs : List ZoneData) → begins_group z ≡ true → length (values (codes "RTY") (z ∷ before_end zs)) ≡ 1
 one_type z zs e = rw e (ap (λ vs. length (z.value ∷ vs)) (none_before zs))
 
 -- the record that begins with the first zone
@@ -85,14 +85,14 @@ record_here (x ∷ xs) d z n some e begin count =
 -- ---- the zones of a record, one after the other
 
 -- the type that the first zone names is that of the group
-pub head_kind : (z : Entry) (zs : List Entry) (text : List ℕ) (kind : Kind) → begins_group z ≡ true → text ≡ z.value → Some kind ≡ kind_named text → kind_in (z ∷ zs) ≡ Some kind
+pub head_kind : (z : ZoneData) (zs : List ZoneData) (text : List ℕ) (kind : Kind) → begins_group z ≡ true → text ≡ z.value → Some kind ≡ kind_named text → kind_in (z ∷ zs) ≡ Some kind
 head_kind z zs text kind e same read = ap (λ vs. option_and_then kind_named (first vs)) (value_here (codes "RTY") z zs text e same) ∙ sym read
 
-pub goes_on : (z : Entry) (zs : List Entry) → ends_group z ≡ false → before_end (z ∷ zs) ≡ z ∷ before_end zs
+pub goes_on : (z : ZoneData) (zs : List ZoneData) → ends_group z ≡ false → before_end (z ∷ zs) ≡ z ∷ before_end zs
 goes_on z zs e = rw e refl
 
-pub stops : (z : Entry) (zs : List Entry) → ends_group z ≡ true → before_end (z ∷ zs) ≡ []
+pub stops : (z : ZoneData) (zs : List ZoneData) → ends_group z ≡ true → before_end (z ∷ zs) ≡ []
 stops z zs e = rw e refl
 
-pub no_group : (z : Entry) (zs : List Entry) → ends_group z ≡ false → groups_of (z ∷ zs) ≡ groups_of zs
+pub no_group : (z : ZoneData) (zs : List ZoneData) → ends_group z ≡ false → groups_of (z ∷ zs) ≡ groups_of zs
 no_group z zs e = let parts = or_parts (begins_group z) (has_code (codes "EOM") z) e in rw parts.0 refl

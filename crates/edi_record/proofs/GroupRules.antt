@@ -2,7 +2,7 @@
 use Rattle.std.proofs.Common.{◌≡◌, ℕ, Bool, true, false, ◌&&◌, ◌||◌, not, List, [], ◌∷◌, inl, inr, Option, Some, None, is_none, is_some, codes, refl, ap, ◌∙◌, option_map}
 use Rattle.std.specs.List.{list_any, before_first}
 use Rattle.std.proofs.lemmas.Bool.{or_left}
-use Rattle.edi_line.specs.Entry.{Entry, has_code}
+use Rattle.edi_line.specs.ZoneData.{ZoneData, has_code}
 use Rattle.edi_record.specs.Records.{points_at, is_known}
 use Rattle.edi_record.specs.Texts.{shown}
 use Rattle.edi_record.specs.inner.GroupRules.{closes_by}
@@ -27,11 +27,11 @@ no_pointer_told text (Some p) false e found = ap is_none found
 
 -- ---- zones, with whether an attribute is open in front of them
 
-pub placed_found : (test : Placed → Bool) (b : Bool) (z : Entry) (zs : List Entry) → test (record { open_before = b; zone = z }) ≡ true → list_any test (placed b (z ∷ zs)) ≡ true
+pub placed_found : (test : Placed → Bool) (b : Bool) (z : ZoneData) (zs : List ZoneData) → test (record { open_before = b; zone = z }) ≡ true → list_any test (placed b (z ∷ zs)) ≡ true
 unfolding placed
 placed_found test b z zs e = or_left _ _ e
 
-pub placed_passed : (test : Placed → Bool) (b next : Bool) (z : Entry) (zs : List Entry) → test (record { open_before = b; zone = z }) ≡ false → next ≡ is_open_after b z
+pub placed_passed : (test : Placed → Bool) (b next : Bool) (z : ZoneData) (zs : List ZoneData) → test (record { open_before = b; zone = z }) ≡ false → next ≡ is_open_after b z
     → list_any test (placed b (z ∷ zs)) ≡ list_any test (placed next zs)
 unfolding placed
 placed_passed test b next z zs e opened = rw (e, opened) refl
@@ -42,7 +42,7 @@ placed_end test b = refl
 
 -- ---- an SNS before any FTP
 
-pub sense_later : (all : List Entry) (z : Entry) (zs : List Entry) → all ≡ z ∷ zs → points_at z ≡ false → has_code (codes "SNS") z ≡ false
+pub sense_later : (all : List ZoneData) (z : ZoneData) (zs : List ZoneData) → all ≡ z ∷ zs → points_at z ≡ false → has_code (codes "SNS") z ≡ false
     → list_any (has_code (codes "SNS")) (before_first points_at all) ≡ list_any (has_code (codes "SNS")) (before_first points_at zs)
 sense_later all z zs cut e f = ap (λ l. list_any (has_code (codes "SNS")) (before_first points_at l)) cut ∙ ap (list_any (has_code (codes "SNS"))) (before_no points_at z zs e) ∙ rw f refl
 
@@ -66,7 +66,7 @@ known_role kind code Skipped not_unknown not_set (inl h) = rw h refl
 known_role kind code Skipped not_unknown not_set (inr (inl h)) = rw h refl
 known_role kind code Skipped not_unknown not_set (inr (inr h)) = rw h refl
 
-pub no_extra : (kind : Kind) (is_open : Bool) (z : Entry) (r : ZoneRole) → r ≡ role_in kind z.code → (r ≡ Unknown → ⊥) → (r ≡ AttributeSet → ⊥) → is_extra kind (record { open_before = is_open; zone = z }) ≡ false
+pub no_extra : (kind : Kind) (is_open : Bool) (z : ZoneData) (r : ZoneRole) → r ≡ role_in kind z.code → (r ≡ Unknown → ⊥) → (r ≡ AttributeSet → ⊥) → is_extra kind (record { open_before = is_open; zone = z }) ≡ false
 no_extra kind is_open z r is not_unknown not_set = go (has_code (codes "TEX") z && is_open)
   where
     known : is_known kind z.code ≡ true
@@ -78,11 +78,11 @@ no_extra kind is_open z r is not_unknown not_set = go (has_code (codes "TEX") z 
 
 -- ---- stretches that end where the next begins
 
-same_count : (p q : Entry → Bool) → ((z : Entry) → p z ≡ q z) → (code : List ℕ) (zs : List Entry) → count_until p code zs ≡ count_until q code zs
+same_count : (p q : ZoneData → Bool) → ((z : ZoneData) → p z ≡ q z) → (code : List ℕ) (zs : List ZoneData) → count_until p code zs ≡ count_until q code zs
 same_count p q same code [] = refl
 same_count p q same code (z ∷ zs) = rw (same z, same_count p q same code zs) refl
 
-same_repeats : (opens p q : Entry → Bool) → ((z : Entry) → p z ≡ q z) → (code : List ℕ) (zs : List Entry) → repeats opens p code zs ≡ repeats opens q code zs
+same_repeats : (opens p q : ZoneData → Bool) → ((z : ZoneData) → p z ≡ q z) → (code : List ℕ) (zs : List ZoneData) → repeats opens p code zs ≡ repeats opens q code zs
 same_repeats opens p q same code [] = refl
 same_repeats opens p q same code (z ∷ zs) = rw (same_count p q same code zs, same_repeats opens p q same code zs) refl
 
@@ -90,5 +90,5 @@ twice : (b : Bool) → (b || b) ≡ b
 twice true = refl
 twice false = refl
 
-pub ends_repeat : (zs : List Entry) → repeats (has_code (codes "FTP")) (closes_by (codes "FTP") (codes "FTP")) (codes "SNS") zs ≡ repeats points_at points_at (codes "SNS") zs
+pub ends_repeat : (zs : List ZoneData) → repeats (has_code (codes "FTP")) (closes_by (codes "FTP") (codes "FTP")) (codes "SNS") zs ≡ repeats points_at points_at (codes "SNS") zs
 ends_repeat zs = same_repeats points_at (closes_by (codes "FTP") (codes "FTP")) points_at (λ z. twice (points_at z)) (codes "SNS") zs

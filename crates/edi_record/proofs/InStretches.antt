@@ -3,7 +3,7 @@ use Rattle.std.proofs.Common.{◌≡◌, Option, Bool, true, false, List, [], �
 use Rattle.std.specs.Prelude.{unwrap_or}
 use Rattle.std.specs.List.{before_first}
 use Rattle.std.proofs.lemmas.Bool.{or_left, or_right, or_from}
-use Rattle.edi_line.specs.Entry.{Entry, has_code, first}
+use Rattle.edi_line.specs.ZoneData.{ZoneData, has_code, first}
 use Rattle.edi_record.specs.Records.{values, opens, closes, points_at}
 use Rattle.edi_record.specs.inner.Records.{set_after, value_after, attribute, attributes, sns_after, end_of, ends}
 use Rattle.edi_record.specs.declared.record.Attribute.{Attribute}
@@ -12,30 +12,30 @@ use Rattle.edi_record.proofs.AttributesRead.{set_none, set_stops, set_found, set
 use Rattle.edi_record.proofs.Loops.{ends_end, ends_here, ends_skip}
 
 -- an ATP with the first TEX and the first ATV before the next ATP, the TEX not after that ATV
-abbrev pub attribute_in : Entry → List Entry → Option Attribute
+abbrev pub attribute_in : ZoneData → List ZoneData → Option Attribute
 attribute_in z behind = attribute z.value (first (values (codes "TEX") (before_first closes (before_first opens behind)))) (unwrap_or (first (values (codes "ATV") (before_first opens behind))) [])
 
 -- an FTP with the first SNS before the next FTP
-abbrev pub end_in : Entry → List Entry → Option End
+abbrev pub end_in : ZoneData → List ZoneData → Option End
 end_in z behind = end_of z.value (first (values (codes "SNS") (before_first points_at behind)))
 
-pub before_yes : (p : Entry → Bool) (z : Entry) (zs : List Entry) → p z ≡ true → before_first p (z ∷ zs) ≡ []
+pub before_yes : (p : ZoneData → Bool) (z : ZoneData) (zs : List ZoneData) → p z ≡ true → before_first p (z ∷ zs) ≡ []
 before_yes p z zs e = rw e refl
 
-pub before_no : (p : Entry → Bool) (z : Entry) (zs : List Entry) → p z ≡ false → before_first p (z ∷ zs) ≡ z ∷ before_first p zs
+pub before_no : (p : ZoneData → Bool) (z : ZoneData) (zs : List ZoneData) → p z ≡ false → before_first p (z ∷ zs) ≡ z ∷ before_first p zs
 before_no p z zs e = rw (e, one-add) refl
 
 -- ---- one item for each zone that passes
 
 -- how such a list is made, zone by zone
-pub record IsMadeBy {X : Type 0} (p : Entry → Bool) (f : Entry → List Entry → X) (F : List Entry → List X) : Type 0 where
+pub record IsMadeBy {X : Type 0} (p : ZoneData → Bool) (f : ZoneData → List ZoneData → X) (F : List ZoneData → List X) : Type 0 where
   pub none : F [] ≡ []
-  pub here : (z : Entry) (zs : List Entry) → p z ≡ true → F (z ∷ zs) ≡ f z zs ∷ F zs
-  pub skip : (z : Entry) (zs : List Entry) → p z ≡ false → F (z ∷ zs) ≡ F zs
+  pub here : (z : ZoneData) (zs : List ZoneData) → p z ≡ true → F (z ∷ zs) ≡ f z zs ∷ F zs
+  pub skip : (z : ZoneData) (zs : List ZoneData) → p z ≡ false → F (z ∷ zs) ≡ F zs
 
 -- ---- attributes
 
-value_in : (zs : List Entry) → value_after zs ≡ unwrap_or (first (values (codes "ATV") (before_first opens zs))) []
+value_in : (zs : List ZoneData) → value_after zs ≡ unwrap_or (first (values (codes "ATV") (before_first opens zs))) []
 unfolding value_after
 value_in [] = refl
 value_in (z ∷ zs) = go (opens z) refl (closes z) refl (value_in zs)
@@ -45,13 +45,13 @@ value_in (z ∷ zs) = go (opens z) refl (closes z) refl (value_in zs)
     go false e true f more = rw (e, one-add, f) refl
     go false e false f more = rw (e, one-add, f) more
 
-set_here : (z : Entry) (zs : List Entry) → has_code (codes "TEX") z ≡ true → first (values (codes "TEX") (z ∷ zs)) ≡ Some z.value
+set_here : (z : ZoneData) (zs : List ZoneData) → has_code (codes "TEX") z ≡ true → first (values (codes "TEX") (z ∷ zs)) ≡ Some z.value
 set_here z zs e = rw e refl
 
-no_set_here : (z : Entry) (zs : List Entry) → has_code (codes "TEX") z ≡ false → first (values (codes "TEX") (z ∷ zs)) ≡ first (values (codes "TEX") zs)
+no_set_here : (z : ZoneData) (zs : List ZoneData) → has_code (codes "TEX") z ≡ false → first (values (codes "TEX") (z ∷ zs)) ≡ first (values (codes "TEX") zs)
 no_set_here z zs e = rw e refl
 
-set_in : (zs : List Entry) → set_after zs ≡ first (values (codes "TEX") (before_first closes (before_first opens zs)))
+set_in : (zs : List ZoneData) → set_after zs ≡ first (values (codes "TEX") (before_first closes (before_first opens zs)))
 set_in [] = sym set_none
 set_in (z ∷ zs) = go (opens z) refl (closes z) refl (has_code (codes "TEX") z) refl (set_in zs)
   where
@@ -75,7 +75,7 @@ attributes_made = record {
 
 -- ---- ends
 
-sns_in : (zs : List Entry) → sns_after zs ≡ first (values (codes "SNS") (before_first points_at zs))
+sns_in : (zs : List ZoneData) → sns_after zs ≡ first (values (codes "SNS") (before_first points_at zs))
 unfolding sns_after
 sns_in [] = refl
 sns_in (z ∷ zs) = go (points_at z) refl (has_code (codes "SNS") z) refl (sns_in zs)

@@ -10,7 +10,7 @@ use Rattle.std.proofs.Math.Seq.{drop-cons}
 use Rattle.std.proofs.Math.ListN.{drop_of_length-le}
 use Rattle.std.proofs.lemmas.List.{append_assoc, take_more, take_all, nil_from_length}
 use Rattle.std.specs.Str.Parse.{digits_value, digits_value_after}
-use Rattle.edi_line.specs.Entry.{Entry, entry, entries, has_code}
+use Rattle.edi_line.specs.ZoneData.{ZoneData, entry, entries, has_code}
 use Rattle.edi_line.specs.declared.zone.Zone.{Zone}
 use Rattle.edi_record.specs.Records.{opens, closes, points_at}
 use Rattle.edi_record.specs.inner.Records.{sns_after, end_of, ends, placed, is_open_after, is_extra, extra}
@@ -37,22 +37,22 @@ no_zone zs i past = ap entries (drop_of_length-le zs past)
 
 -- ---- values where no attribute is open
 
-opens_apart : (z : Entry) → opens z ≡ true → closes z ≡ false
+opens_apart : (z : ZoneData) → opens z ≡ true → closes z ≡ false
 opens_apart z e = let same : z.code ≡ codes "ATP" = (bytes_eq-Decides z.code (codes "ATP")).0 e in rw same refl
 
-pub stray_opens : (b : Bool) (z : Entry) (zs : List Entry) → opens z ≡ true → list_any is_stray (placed b (z ∷ zs)) ≡ list_any is_stray (placed true zs)
+pub stray_opens : (b : Bool) (z : ZoneData) (zs : List ZoneData) → opens z ≡ true → list_any is_stray (placed b (z ∷ zs)) ≡ list_any is_stray (placed true zs)
 unfolding placed
 stray_opens b z zs e = rw (opens_apart z e, e) refl
 
-pub stray_here : (b : Bool) (z : Entry) (zs : List Entry) → closes z ≡ true → b ≡ false → list_any is_stray (placed b (z ∷ zs)) ≡ true
+pub stray_here : (b : Bool) (z : ZoneData) (zs : List ZoneData) → closes z ≡ true → b ≡ false → list_any is_stray (placed b (z ∷ zs)) ≡ true
 unfolding placed
 stray_here b z zs e f = rw (e, f) refl
 
-pub stray_closes : (b : Bool) (z : Entry) (zs : List Entry) → opens z ≡ false → closes z ≡ true → b ≡ true → list_any is_stray (placed b (z ∷ zs)) ≡ list_any is_stray (placed false zs)
+pub stray_closes : (b : Bool) (z : ZoneData) (zs : List ZoneData) → opens z ≡ false → closes z ≡ true → b ≡ true → list_any is_stray (placed b (z ∷ zs)) ≡ list_any is_stray (placed false zs)
 unfolding placed
 stray_closes b z zs e f g = rw (e, f, g) refl
 
-pub stray_skips : (b : Bool) (z : Entry) (zs : List Entry) → opens z ≡ false → closes z ≡ false → list_any is_stray (placed b (z ∷ zs)) ≡ list_any is_stray (placed b zs)
+pub stray_skips : (b : Bool) (z : ZoneData) (zs : List ZoneData) → opens z ≡ false → closes z ≡ false → list_any is_stray (placed b (z ∷ zs)) ≡ list_any is_stray (placed b zs)
 unfolding placed
 stray_skips b z zs e f = rw (e, f) refl
 
@@ -66,11 +66,11 @@ pub extras_none : (kind : Kind) (b : Bool) → extras_after kind b [] ≡ []
 unfolding placed
 extras_none kind b = refl
 
-pub extras_here : (kind : Kind) (b : Bool) (z : Entry) (zs : List Entry) → is_extra kind (record { open_before = b; zone = z }) ≡ true → extras_after kind b (z ∷ zs) ≡ extra z ∷ extras_after kind (is_open_after b z) zs
+pub extras_here : (kind : Kind) (b : Bool) (z : ZoneData) (zs : List ZoneData) → is_extra kind (record { open_before = b; zone = z }) ≡ true → extras_after kind b (z ∷ zs) ≡ extra z ∷ extras_after kind (is_open_after b z) zs
 unfolding placed
 extras_here kind b z zs e = rw e refl
 
-pub extras_skip : (kind : Kind) (b : Bool) (z : Entry) (zs : List Entry) → is_extra kind (record { open_before = b; zone = z }) ≡ false → extras_after kind b (z ∷ zs) ≡ extras_after kind (is_open_after b z) zs
+pub extras_skip : (kind : Kind) (b : Bool) (z : ZoneData) (zs : List ZoneData) → is_extra kind (record { open_before = b; zone = z }) ≡ false → extras_after kind b (z ∷ zs) ≡ extras_after kind (is_open_after b z) zs
 unfolding placed
 extras_skip kind b z zs e = rw e refl
 
@@ -83,19 +83,19 @@ pub sns_none : None ≡ sns_after []
 unfolding sns_after
 sns_none = refl
 
-pub sns_stops : (z : Entry) (zs : List Entry) → points_at z ≡ true → None ≡ sns_after (z ∷ zs)
+pub sns_stops : (z : ZoneData) (zs : List ZoneData) → points_at z ≡ true → None ≡ sns_after (z ∷ zs)
 unfolding sns_after
 sns_stops z zs e = rw e refl
 
-pub sns_found : (z : Entry) (zs : List Entry) → points_at z ≡ false → has_code (codes "SNS") z ≡ true → Some z.value ≡ sns_after (z ∷ zs)
+pub sns_found : (z : ZoneData) (zs : List ZoneData) → points_at z ≡ false → has_code (codes "SNS") z ≡ true → Some z.value ≡ sns_after (z ∷ zs)
 unfolding sns_after
 sns_found z zs e f = rw (e, f) refl
 
-pub sns_goes_on : (z : Entry) (zs : List Entry) → points_at z ≡ false → has_code (codes "SNS") z ≡ false → sns_after zs ≡ sns_after (z ∷ zs)
+pub sns_goes_on : (z : ZoneData) (zs : List ZoneData) → points_at z ≡ false → has_code (codes "SNS") z ≡ false → sns_after zs ≡ sns_after (z ∷ zs)
 unfolding sns_after
 sns_goes_on z zs e f = rw (e, f) refl
 
-pub stray_sns_goes_on : (z : Entry) (zs : List Entry) → points_at z ≡ false → has_code (codes "SNS") z ≡ false → has_stray zs ≡ has_stray (z ∷ zs)
+pub stray_sns_goes_on : (z : ZoneData) (zs : List ZoneData) → points_at z ≡ false → has_code (codes "SNS") z ≡ false → has_stray zs ≡ has_stray (z ∷ zs)
 stray_sns_goes_on z zs e f = rw (e, one-add, f) refl
 
 -- ---- ends
@@ -104,23 +104,23 @@ pub ends_end : ends [] ≡ []
 unfolding ends
 ends_end = refl
 
-pub ends_skip : (z : Entry) (zs : List Entry) → points_at z ≡ false → ends (z ∷ zs) ≡ ends zs
+pub ends_skip : (z : ZoneData) (zs : List ZoneData) → points_at z ≡ false → ends (z ∷ zs) ≡ ends zs
 unfolding ends
 ends_skip z zs e = rw e refl
 
-pub ends_here : (z : Entry) (zs : List Entry) → points_at z ≡ true → ends (z ∷ zs) ≡ end_of z.value (sns_after zs) ∷ ends zs
+pub ends_here : (z : ZoneData) (zs : List ZoneData) → points_at z ≡ true → ends (z ∷ zs) ≡ end_of z.value (sns_after zs) ∷ ends zs
 unfolding ends
 ends_here z zs e = rw e refl
 
-abbrev end_made : PointerText → List Entry → End
+abbrev end_made : PointerText → List ZoneData → End
 end_made p zs = record { lot = p.lot; subset = p.subset; target = record { rty = p.rty; rid = p.rid }; sns = sns_after zs }
 
-pub end_read : (z : Entry) (zs : List Entry) (text : List ℕ) (p : PointerText) → points_at z ≡ true → text ≡ z.value → Some p ≡ pointer text → ends (z ∷ zs) ≡ Some (end_made p zs) ∷ ends zs
+pub end_read : (z : ZoneData) (zs : List ZoneData) (text : List ℕ) (p : PointerText) → points_at z ≡ true → text ≡ z.value → Some p ≡ pointer text → ends (z ∷ zs) ≡ Some (end_made p zs) ∷ ends zs
 end_read z zs text p e same read =
     let found : pointer z.value ≡ Some p = ap pointer (sym same) ∙ sym read in
     ends_here z zs e ∙ rw found refl
 
-pub no_end : (z : Entry) (zs : List Entry) (text : List ℕ) → points_at z ≡ true → text ≡ z.value → None ≡ pointer text → ends (z ∷ zs) ≡ None ∷ ends zs
+pub no_end : (z : ZoneData) (zs : List ZoneData) (text : List ℕ) → points_at z ≡ true → text ≡ z.value → None ≡ pointer text → ends (z ∷ zs) ≡ None ∷ ends zs
 no_end z zs text e same read =
     let found : pointer z.value ≡ None = ap pointer (sym same) ∙ sym read in
     ends_here z zs e ∙ rw found refl
@@ -199,14 +199,14 @@ pub unknown_none : (kind : Kind) (b : Bool) → list_any (is_unknown_pointer kin
 unfolding placed
 unknown_none kind b = refl
 
-pub unknown_here : (kind : Kind) (b : Bool) (z : Entry) (zs : List Entry) → is_unknown_pointer kind (record { open_before = b; zone = z }) ≡ true → list_any (is_unknown_pointer kind) (placed b (z ∷ zs)) ≡ true
+pub unknown_here : (kind : Kind) (b : Bool) (z : ZoneData) (zs : List ZoneData) → is_unknown_pointer kind (record { open_before = b; zone = z }) ≡ true → list_any (is_unknown_pointer kind) (placed b (z ∷ zs)) ≡ true
 unfolding placed
 unknown_here kind b z zs e = rw e refl
 
-pub unknown_skip : (kind : Kind) (b : Bool) (z : Entry) (zs : List Entry) → is_unknown_pointer kind (record { open_before = b; zone = z }) ≡ false
+pub unknown_skip : (kind : Kind) (b : Bool) (z : ZoneData) (zs : List ZoneData) → is_unknown_pointer kind (record { open_before = b; zone = z }) ≡ false
     → list_any (is_unknown_pointer kind) (placed b (z ∷ zs)) ≡ list_any (is_unknown_pointer kind) (placed (is_open_after b z) zs)
 unfolding placed
 unknown_skip kind b z zs e = rw e refl
 
-pub unknown_in : (kind : Kind) (group : List Entry) → kind_in group ≡ Some kind → has_unknown_pointer group ≡ list_any (is_unknown_pointer kind) (placed false group)
+pub unknown_in : (kind : Kind) (group : List ZoneData) → kind_in group ≡ Some kind → has_unknown_pointer group ≡ list_any (is_unknown_pointer kind) (placed false group)
 unknown_in kind group e = rw e refl

@@ -5,7 +5,7 @@ use Rattle.std.specs.List.{list_any}
 use Rattle.std.proofs.lemmas.Bool.{or_left, or_right, or_from, leb-true, leb-false, lt-ltb, le-ltb}
 use Rattle.std.proofs.lemmas.List.{length-map}
 use Rattle.std.proofs.lemmas.Slice.Eq.{bytes_eq-Decides}
-use Rattle.edi_line.specs.Entry.{Entry, first}
+use Rattle.edi_line.specs.ZoneData.{ZoneData, first}
 use Rattle.edi_record.specs.Texts.{PointerText}
 use Rattle.edi_record.specs.inner.Texts.{pointer, point}
 use Rattle.edi_record.specs.Shapes.{kind_code, may_have_points}
@@ -38,7 +38,7 @@ no_class text tex atv = go (pointer text) refl
     go (Some p) e = rw e refl
     go None e = rw e refl
 
-pub attributes_lack : (g : List Entry) → list_any is_none (attributes g) ≡ some_no_pointer (values (codes "ATP") g)
+pub attributes_lack : (g : List ZoneData) → list_any is_none (attributes g) ≡ some_no_pointer (values (codes "ATP") g)
 unfolding attributes
 attributes_lack [] = refl
 attributes_lack (z ∷ zs) = go (opens z) refl (attributes_lack zs)
@@ -47,7 +47,7 @@ attributes_lack (z ∷ zs) = go (opens z) refl (attributes_lack zs)
     go true e more = rw (e, no_class z.value (set_after zs) (value_after zs), more) refl
     go false e more = rw (e, more) refl
 
-pub attributes_count : (g : List Entry) → length (attributes g) ≡ length (values (codes "ATP") g)
+pub attributes_count : (g : List ZoneData) → length (attributes g) ≡ length (values (codes "ATP") g)
 unfolding attributes
 attributes_count [] = refl
 attributes_count (z ∷ zs) = go (opens z) refl (attributes_count zs)
@@ -56,10 +56,10 @@ attributes_count (z ∷ zs) = go (opens z) refl (attributes_count zs)
     go true e more = rw e (ap suc more)
     go false e more = rw e more
 
-pub bad_class : (g : List Entry) → list_any is_none (attributes g) ≡ true → has_bad_attribute g ≡ true
+pub bad_class : (g : List ZoneData) → list_any is_none (attributes g) ≡ true → has_bad_attribute g ≡ true
 bad_class g e = or_left _ _ (sym (attributes_lack g) ∙ e)
 
-pub good_attributes : (g : List Entry) (found : List Attribute) (stray more : Bool) → attributes g ≡ map Some found → stray ≡ list_any is_stray (placed false g) → stray ≡ false
+pub good_attributes : (g : List ZoneData) (found : List Attribute) (stray more : Bool) → attributes g ≡ map Some found → stray ≡ list_any is_stray (placed false g) → stray ≡ false
     → more ≡ repeats opens (λ z. opens z || closes z) (codes "TEX") g → more ≡ false → has_bad_attribute g ≡ false
 good_attributes g found stray more e s is_stray_not m is_more_not = or_from _ _ (sym (attributes_lack g) ∙ all_there (attributes g) found e) (or_from _ _ (sym s ∙ is_stray_not) (sym m ∙ is_more_not))
 
@@ -69,10 +69,10 @@ places_lack : (vs : List (List ℕ)) → list_any is_none (map point vs) ≡ lis
 places_lack [] = refl
 places_lack (v ∷ vs) = ap (λ b. is_none (point v) || b) (places_lack vs)
 
-pub bad_place : (kind : Kind) (g : List Entry) → kind_in g ≡ Some kind → has_points kind ≡ true → list_any is_none (map point (values (codes "COR") g)) ≡ true → has_bad_point g ≡ true
+pub bad_place : (kind : Kind) (g : List ZoneData) → kind_in g ≡ Some kind → has_points kind ≡ true → list_any is_none (map point (values (codes "COR") g)) ≡ true → has_bad_point g ≡ true
 bad_place kind g k h e = rw (k, h) (or_left _ _ (sym (places_lack (values (codes "COR") g)) ∙ e))
 
-pub right_points : (kind : Kind) (g : List Entry) (ps : List Point) → kind_in g ≡ Some kind → has_points kind ≡ true → map point (values (codes "COR") g) ≡ map Some ps → may_have_points kind (length ps) ≡ true → has_bad_point g ≡ false
+pub right_points : (kind : Kind) (g : List ZoneData) (ps : List Point) → kind_in g ≡ Some kind → has_points kind ≡ true → map point (values (codes "COR") g) ≡ map Some ps → may_have_points kind (length ps) ≡ true → has_bad_point g ≡ false
 right_points kind g ps k h e shape = go kind k h shape
   where
     count : length (values (codes "COR") g) ≡ length ps
@@ -92,7 +92,7 @@ or_true : (b : Bool) → (b || true) ≡ true
 or_true true = refl
 or_true false = refl
 
-pub wrong_number : (kind : Kind) (g : List Entry) (ps : List Point) → kind_in g ≡ Some kind → has_points kind ≡ true → map point (values (codes "COR") g) ≡ map Some ps → may_have_points kind (length ps) ≡ false → has_bad_point g ≡ true
+pub wrong_number : (kind : Kind) (g : List ZoneData) (ps : List Point) → kind_in g ≡ Some kind → has_points kind ≡ true → map point (values (codes "COR") g) ≡ map Some ps → may_have_points kind (length ps) ≡ false → has_bad_point g ≡ true
 wrong_number kind g ps k h e shape = go kind k h shape
   where
     count : length (values (codes "COR") g) ≡ length ps
@@ -117,7 +117,7 @@ no_end text sns = go (pointer text) refl
     go (Some p) e = rw e refl
     go None e = rw e refl
 
-ends_lack : (g : List Entry) → list_any is_none (ends g) ≡ some_no_pointer (values (codes "FTP") g)
+ends_lack : (g : List ZoneData) → list_any is_none (ends g) ≡ some_no_pointer (values (codes "FTP") g)
 unfolding ends
 ends_lack [] = refl
 ends_lack (z ∷ zs) = go (points_at z) refl (ends_lack zs)
@@ -126,7 +126,7 @@ ends_lack (z ∷ zs) = go (points_at z) refl (ends_lack zs)
     go true e more = rw (e, no_end z.value (sns_after zs), more) refl
     go false e more = rw (e, more) refl
 
-pub ends_count : (g : List Entry) → length (ends g) ≡ length (values (codes "FTP") g)
+pub ends_count : (g : List ZoneData) → length (ends g) ≡ length (values (codes "FTP") g)
 unfolding ends
 ends_count [] = refl
 ends_count (z ∷ zs) = go (points_at z) refl (ends_count zs)
@@ -135,22 +135,22 @@ ends_count (z ∷ zs) = go (points_at z) refl (ends_count zs)
     go true e more = rw e (ap suc more)
     go false e more = rw e more
 
-pub link_end : (kind : Kind) (g : List Entry) → kind_in g ≡ Some kind → is_link kind ≡ true
+pub link_end : (kind : Kind) (g : List ZoneData) → kind_in g ≡ Some kind → is_link kind ≡ true
     → has_bad_end g ≡ (some_no_pointer (values (codes "FTP") g) || (ltb (length (values (codes "FTP") g)) 2 || (has_stray g || repeats points_at points_at (codes "SNS") g)))
 link_end kind g k h = rw (k, h) refl
 
-pub bad_target : (kind : Kind) (g : List Entry) → kind_in g ≡ Some kind → is_link kind ≡ true → list_any is_none (ends g) ≡ true → has_bad_end g ≡ true
+pub bad_target : (kind : Kind) (g : List ZoneData) → kind_in g ≡ Some kind → is_link kind ≡ true → list_any is_none (ends g) ≡ true → has_bad_end g ≡ true
 bad_target kind g k h e = link_end kind g k h ∙ or_left _ _ (sym (ends_lack g) ∙ e)
 
-pub few_ends : (kind : Kind) (g : List Entry) (es : List End) → kind_in g ≡ Some kind → is_link kind ≡ true → ends g ≡ map Some es → length es < 2 → has_bad_end g ≡ true
+pub few_ends : (kind : Kind) (g : List ZoneData) (es : List End) → kind_in g ≡ Some kind → is_link kind ≡ true → ends g ≡ map Some es → length es < 2 → has_bad_end g ≡ true
 few_ends kind g es k h e few =
     let count = sym (ends_count g) ∙ same_length (ends g) es e in
     link_end kind g k h ∙ or_right _ _ (or_left _ _ (lt-ltb (length (values (codes "FTP") g)) 2 (omega (arith, count, few))))
 
-pub bad_sns : (kind : Kind) (g : List Entry) (bad : Bool) → kind_in g ≡ Some kind → is_link kind ≡ true → bad ≡ (has_stray g || repeats points_at points_at (codes "SNS") g) → bad ≡ true → has_bad_end g ≡ true
+pub bad_sns : (kind : Kind) (g : List ZoneData) (bad : Bool) → kind_in g ≡ Some kind → is_link kind ≡ true → bad ≡ (has_stray g || repeats points_at points_at (codes "SNS") g) → bad ≡ true → has_bad_end g ≡ true
 bad_sns kind g bad k h e b = link_end kind g k h ∙ or_right _ _ (or_right _ _ (sym e ∙ b))
 
-pub good_ends : (kind : Kind) (g : List Entry) (es : List End) (bad : Bool) → kind_in g ≡ Some kind → is_link kind ≡ true → ends g ≡ map Some es → 2 ≤ length es
+pub good_ends : (kind : Kind) (g : List ZoneData) (es : List End) (bad : Bool) → kind_in g ≡ Some kind → is_link kind ≡ true → ends g ≡ map Some es → 2 ≤ length es
     → bad ≡ (has_stray g || repeats points_at points_at (codes "SNS") g) → bad ≡ false → has_bad_end g ≡ false
 good_ends kind g es bad k h e many s b =
     let count = sym (ends_count g) ∙ same_length (ends g) es e in

@@ -1,7 +1,7 @@
 -- Which rules a group that states a record can't break.
 use Rattle.std.proofs.Common.{◌≡◌, ℕ, Bool, true, false, not, List, [], ◌∷◌, map, Option, Some, None, option_map, is_none, is_some, codes, refl, sym, ap, ◌∙◌}
 use Rattle.std.specs.Prelude.{option_and_then, unwrap_or, ℤ}
-use Rattle.edi_line.specs.Entry.{Entry, first}
+use Rattle.edi_line.specs.ZoneData.{ZoneData, first}
 use Rattle.edi_record.specs.Texts.{PointerText}
 use Rattle.edi_record.specs.inner.Texts.{pointer, class_of}
 use Rattle.edi_record.specs.RecordRules.{just_one, is_identifier, has_no_identifier}
@@ -15,13 +15,13 @@ use Rattle.edi_record.specs.declared.name.Name.{Name}
 use Rattle.edi_record.specs.declared.record.Record.{Record}
 use Rattle.edi_record.proofs.Unique.{kind_again}
 
-pub kind_is : (group : List Entry) (r : Record) → ReadsAs group r → kind_in group ≡ Some r.kind
+pub kind_is : (group : List ZoneData) (r : Record) → ReadsAs group r → kind_in group ≡ Some r.kind
 kind_is group r h = ap (λ vs. option_and_then kind_named (first vs)) h.type ∙ kind_again r.kind
 
-pub has_kind : (group : List Entry) (r : Record) → ReadsAs group r → has_no_kind group ≡ false
+pub has_kind : (group : List ZoneData) (r : Record) → ReadsAs group r → has_no_kind group ≡ false
 has_kind group r h = ap is_none (kind_is group r h)
 
-pub has_identifier : (group : List Entry) (r : Record) → ReadsAs group r → is_identifier r.rid ≡ true → has_no_identifier group ≡ false
+pub has_identifier : (group : List ZoneData) (r : Record) → ReadsAs group r → is_identifier r.rid ≡ true → has_no_identifier group ≡ false
 has_identifier group r h form = ap (λ vs. not (just_one is_identifier vs)) h.rid ∙ rw form refl
 
 some_pointer : (text : List ℕ) (name : Name) → class_of text ≡ Some name → is_some (pointer text) ≡ true
@@ -36,7 +36,7 @@ one_pointer [] name e = absurd cc
 one_pointer (v ∷ []) name e = some_pointer v name cc
 one_pointer (v ∷ w ∷ vs) name e = absurd cc
 
-pub has_class : (group : List Entry) (r : Record) → ReadsAs group r → has_no_class group ≡ false
+pub has_class : (group : List ZoneData) (r : Record) → ReadsAs group r → has_no_class group ≡ false
 has_class group r h = rw (one_pointer (values (codes "SCP") group) r.scp h.scp) refl
 
 -- ---- values

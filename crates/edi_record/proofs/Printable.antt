@@ -7,7 +7,7 @@ use Rattle.std.specs.Str.Parse.{AllDigits}
 use Rattle.std.proofs.lemmas.Bool.{ne_eqb}
 use Rattle.std.proofs.lemmas.List.Elements.{All-append, All-cons, All-nil, All-from_recursion}
 use Rattle.std.proofs.lemmas.Fmt.{decimal_is_IsNumeral}
-use Rattle.edi_line.specs.Entry.{Entry}
+use Rattle.edi_line.specs.ZoneData.{ZoneData}
 use Rattle.edi_line.specs.Number.{IsNumberText, plain_text, signed_text, size_of, MOST}
 use Rattle.edi_line.specs.inner.Number.{number}
 use Rattle.edi_line.specs.LineKinds.{kind_of, is_zone}
@@ -106,7 +106,7 @@ own_line true text h = go (number text) refl
 
 -- ---- zones
 
-flat_each : {X : Type 0} (P : Entry → Type 0) (Q : X → Type 0) (f : X → List Entry) → ((x : X) → Q x → AllByRecursion P (f x)) → (xs : List X) → AllByRecursion Q xs → AllByRecursion P (flat_map f xs)
+flat_each : {X : Type 0} (P : ZoneData → Type 0) (Q : X → Type 0) (f : X → List ZoneData) → ((x : X) → Q x → AllByRecursion P (f x)) → (xs : List X) → AllByRecursion Q xs → AllByRecursion P (flat_map f xs)
 flat_each P Q f k [] h = tt
 flat_each P Q f k (x ∷ xs) h = joined P (f x) (flat_map f xs) (k x h.0) (flat_each P Q f k xs h.1)
 

@@ -9,7 +9,7 @@ use Rattle.std.proofs.lemmas.List.{append-nil, length-map}
 use Rattle.std.proofs.lemmas.List.Elements.{filter-append}
 use Rattle.std.proofs.lemmas.Fmt.{decimal_is_IsNumeral}
 use Rattle.std.proofs.lemmas.Str.Parse.{numerals_by_value, tells_all_ascii_digits}
-use Rattle.edi_line.specs.Entry.{Entry, has_code}
+use Rattle.edi_line.specs.ZoneData.{ZoneData, has_code}
 use Rattle.edi_line.specs.Refusal.{test}
 use Rattle.edi_line.specs.inner.Refusal.{first_broken}
 use Rattle.edi_line.specs.Printing.{zone_text}
@@ -36,14 +36,14 @@ use Rattle.edi_record.proofs.Parts.{same_length, good_attributes, right_points, 
 
 -- ---- the zones before the attributes, and those from them on
 
-abbrev count_zone : Record → Entry
+abbrev count_zone : Record → ZoneData
 count_zone r = zone_text (codes "ATC") 83 78 (decimal (length r.attributes))
 
-abbrev front : Letters → Record → List Entry
+abbrev front : Letters → Record → List ZoneData
 front s r =
     zone_text (codes "RTY") 83 65 (kind_code r.kind) ∷ zone_text (codes "RID") 83 65 r.rid ∷ zone_text (codes "SCP") 67 80 (class_text r.scp) ∷ (zones_of_body r.kind r.points r.ends ++ count_zone r ∷ [])
 
-abbrev rest : Letters → Record → List Entry
+abbrev rest : Letters → Record → List ZoneData
 rest s r = flat_map (zones_of_attribute s) r.attributes ++ map extra_zone r.extras
 
 split : (s : Letters) (r : Record) → zones_of_record s r ≡ front s r ++ rest s r
@@ -53,7 +53,7 @@ split s r =
     (ap (λ t. zones_of_body r.kind r.points r.ends ++ t) (behind_is s r) ∙ sym (append_assoc (zones_of_body r.kind r.points r.ends) (count_zone r ∷ []) (rest s r)))
 
 -- a zone that neither opens nor closes an attribute
-abbrev IsApart : Entry → Type 0
+abbrev IsApart : ZoneData → Type 0
 IsApart z = (opens z ≡ false) × (closes z ≡ false)
 
 apart_in_body : HoldsInBody IsApart
@@ -73,15 +73,15 @@ extras_apart kind xs h = mapped_each IsApart (IsExtra kind) extra_zone (extra_ap
 
 -- ---- 204
 
-stray_past : (b : Bool) (zs more : List Entry) → AllByRecursion IsApart zs → list_any is_stray (placed b (zs ++ more)) ≡ list_any is_stray (placed b more)
+stray_past : (b : Bool) (zs more : List ZoneData) → AllByRecursion IsApart zs → list_any is_stray (placed b (zs ++ more)) ≡ list_any is_stray (placed b more)
 stray_past b [] more h = refl
 stray_past b (z ∷ zs) more h = stray_skips b z (zs ++ more) h.0.0 h.0.1 ∙ stray_past b zs more h.1
 
-none_stray : (b : Bool) (zs : List Entry) → AllByRecursion IsApart zs → list_any is_stray (placed b zs) ≡ false
+none_stray : (b : Bool) (zs : List ZoneData) → AllByRecursion IsApart zs → list_any is_stray (placed b zs) ≡ false
 none_stray b [] h = stray_end b
 none_stray b (z ∷ zs) h = stray_skips b z zs h.0.0 h.0.1 ∙ none_stray b zs h.1
 
-stray_attribute : (b : Bool) (s : Letters) (a : Attribute) (more : List Entry) → list_any is_stray (placed b (zones_of_attribute s a ++ more)) ≡ list_any is_stray (placed false more)
+stray_attribute : (b : Bool) (s : Letters) (a : Attribute) (more : List ZoneData) → list_any is_stray (placed b (zones_of_attribute s a ++ more)) ≡ list_any is_stray (placed false more)
 unfolding placed zones_of_attribute
 stray_attribute b s a more = by_set a.tex
   where
@@ -90,7 +90,7 @@ stray_attribute b s a more = by_set a.tex
     by_set None = refl
     by_set (Some text) = refl
 
-stray_attributes : (b : Bool) (s : Letters) (xs : List Attribute) (more : List Entry) → ((c : Bool) → list_any is_stray (placed c more) ≡ false) → list_any is_stray (placed b (flat_map (zones_of_attribute s) xs ++ more)) ≡ false
+stray_attributes : (b : Bool) (s : Letters) (xs : List Attribute) (more : List ZoneData) → ((c : Bool) → list_any is_stray (placed c more) ≡ false) → list_any is_stray (placed b (flat_map (zones_of_attribute s) xs ++ more)) ≡ false
 stray_attributes b s [] more k = k b
 stray_attributes b s (a ∷ xs) more k =
     ap (λ zs. list_any is_stray (placed b zs)) (append_assoc (zones_of_attribute s a) (flat_map (zones_of_attribute s) xs) more)
@@ -101,18 +101,18 @@ no_stray_value s r h =
     ap (λ zs. list_any is_stray (placed false zs)) (split s r) ∙ stray_past false (front s r) (rest s r) (front_apart s r)
     ∙ stray_attributes false s r.attributes (map extra_zone r.extras) (λ c. none_stray c (map extra_zone r.extras) (extras_apart r.kind r.extras h.extras))
 
-abbrev sets_repeat : List Entry → Bool
+abbrev sets_repeat : List ZoneData → Bool
 sets_repeat zs = repeats opens (λ z. opens z || closes z) (codes "TEX") zs
 
-sets_past : (zs more : List Entry) → AllByRecursion IsApart zs → sets_repeat (zs ++ more) ≡ sets_repeat more
+sets_past : (zs more : List ZoneData) → AllByRecursion IsApart zs → sets_repeat (zs ++ more) ≡ sets_repeat more
 sets_past [] more h = refl
 sets_past (z ∷ zs) more h = rw h.0.0 (sets_past zs more h.1)
 
-sets_none : (zs : List Entry) → AllByRecursion IsApart zs → sets_repeat zs ≡ false
+sets_none : (zs : List ZoneData) → AllByRecursion IsApart zs → sets_repeat zs ≡ false
 sets_none [] h = refl
 sets_none (z ∷ zs) h = rw h.0.0 (sets_none zs h.1)
 
-sets_attribute : (s : Letters) (a : Attribute) (more : List Entry) → sets_repeat (zones_of_attribute s a ++ more) ≡ sets_repeat more
+sets_attribute : (s : Letters) (a : Attribute) (more : List ZoneData) → sets_repeat (zones_of_attribute s a ++ more) ≡ sets_repeat more
 unfolding zones_of_attribute
 sets_attribute s a more = by_set a.tex
   where
@@ -120,7 +120,7 @@ sets_attribute s a more = by_set a.tex
     by_set None = refl
     by_set (Some text) = refl
 
-sets_attributes : (s : Letters) (xs : List Attribute) (more : List Entry) → sets_repeat (flat_map (zones_of_attribute s) xs ++ more) ≡ sets_repeat more
+sets_attributes : (s : Letters) (xs : List Attribute) (more : List ZoneData) → sets_repeat (flat_map (zones_of_attribute s) xs ++ more) ≡ sets_repeat more
 sets_attributes s [] more = refl
 sets_attributes s (a ∷ xs) more =
     ap sets_repeat (append_assoc (zones_of_attribute s a) (flat_map (zones_of_attribute s) xs) more)
@@ -142,7 +142,7 @@ count_again n h =
     let some : ltb 0 (length (decimal n)) ≡ true = lt-ltb _ _ numeral.0.0 in
     rw (some, ascii_digits (decimal n) numeral.0.1, numeral.1) refl
 
-right_count : (counting counted : List ℕ) (g : List Entry) (n : ℕ) → n < 2 ^ 64 → values counting g ≡ decimal n ∷ [] → length (values counted g) ≡ n → counts_wrong counting counted g ≡ false
+right_count : (counting counted : List ℕ) (g : List ZoneData) (n : ℕ) → n < 2 ^ 64 → values counting g ≡ decimal n ∷ [] → length (values counted g) ≡ n → counts_wrong counting counted g ≡ false
 right_count counting counted g n small one same =
     let right : counts_right (decimal n ∷ []) (length (values counted g)) ≡ true = rw (count_again n small) (eq-eqb n (length (values counted g)) (sym same)) in
     ap (λ vs. not (counts_right vs (length (values counted g)))) one ∙ ap not right
@@ -161,11 +161,11 @@ attributes_lack_atc s a = by_set a.tex
 
 -- the values of a code that only one zone of the body has
 body_value : (code text : List ℕ) (s : Letters) (r : Record) → IsRecord r → bytes_eq (codes "RTY") code ≡ false → bytes_eq (codes "RID") code ≡ false → bytes_eq (codes "SCP") code ≡ false
-    → map (λ (z : Entry). z.value) (filter (has_code code) (zones_of_body r.kind r.points r.ends)) ≡ text ∷ [] → HoldsBehind (λ z. has_code code z ≡ false) → ((e : Extra) → IsExtra r.kind e → bytes_eq e.code code ≡ false)
+    → map (λ (z : ZoneData). z.value) (filter (has_code code) (zones_of_body r.kind r.points r.ends)) ≡ text ∷ [] → HoldsBehind (λ z. has_code code z ≡ false) → ((e : Extra) → IsExtra r.kind e → bytes_eq e.code code ≡ false)
     → values code (zones_of_record s r) ≡ text ∷ []
 body_value code text s r h rty rid scp body back extras =
     ap (values code) (record_is s r)
-    ∙ rw (rty, rid, scp) (ap (map (λ (z : Entry). z.value)) (filter-append (has_code code) (zones_of_body r.kind r.points r.ends) (behind s r) ∙ ap (λ t. filter (has_code code) (zones_of_body r.kind r.points r.ends) ++ t) (none_found (has_code code) (behind s r) (behind_each (λ z. has_code code z ≡ false) back s r extras h)) ∙ append-nil (filter (has_code code) (zones_of_body r.kind r.points r.ends))) ∙ body)
+    ∙ rw (rty, rid, scp) (ap (map (λ (z : ZoneData). z.value)) (filter-append (has_code code) (zones_of_body r.kind r.points r.ends) (behind s r) ∙ ap (λ t. filter (has_code code) (zones_of_body r.kind r.points r.ends) ++ t) (none_found (has_code code) (behind s r) (behind_each (λ z. has_code code z ≡ false) back s r extras h)) ∙ append-nil (filter (has_code code) (zones_of_body r.kind r.points r.ends))) ∙ body)
 
 no_point : (code : List ℕ) → bytes_eq (codes "COR") code ≡ false → (xs : List Point) → AllByRecursion (λ z. has_code code z ≡ false) (map point_zone xs)
 no_point code e xs = mapped (λ z. has_code code z ≡ false) point_zone (λ x. e) xs
@@ -193,9 +193,9 @@ atc_value s r h =
     (flat_mapped (λ z. has_code (codes "ATC") z ≡ false) (zones_of_attribute s) (attributes_lack_atc s) r.attributes)
     (mapped_each (λ z. has_code (codes "ATC") z ≡ false) (IsExtra r.kind) extra_zone (λ e k. (unknown r.kind e k).1.1.1.0) r.extras h.extras)) in
     ap (values (codes "ATC")) (record_is s r)
-    ∙ ap (map (λ (z : Entry). z.value)) (filter-append (has_code (codes "ATC")) (zones_of_body r.kind r.points r.ends) (behind s r) ∙ ap (λ t. t ++ filter (has_code (codes "ATC")) (behind s r)) body ∙ ap (filter (has_code (codes "ATC"))) (behind_is s r) ∙ ap (λ t. count_zone r ∷ t) others)
+    ∙ ap (map (λ (z : ZoneData). z.value)) (filter-append (has_code (codes "ATC")) (zones_of_body r.kind r.points r.ends) (behind s r) ∙ ap (λ t. t ++ filter (has_code (codes "ATC")) (behind s r)) body ∙ ap (filter (has_code (codes "ATC"))) (behind_is s r) ∙ ap (λ t. count_zone r ∷ t) others)
 
-attributes_count : (g : List Entry) → length (attributes g) ≡ length (values (codes "ATP") g)
+attributes_count : (g : List ZoneData) → length (attributes g) ≡ length (values (codes "ATP") g)
 unfolding attributes
 attributes_count [] = refl
 attributes_count (z ∷ zs) = go (opens z) refl (attributes_count zs)
@@ -229,7 +229,7 @@ right_point_count s r h k = go r.kind refl (kind_is (zones_of_record s r) (settl
     go Par t named =
         let body : filter (has_code (codes "PTC")) (zones_of_body r.kind r.points r.ends) ≡ zone_text (codes "PTC") 83 78 (decimal (length r.points)) ∷ [] = rw t (ptc_found r.points r.ends) in
         let apart : (e : Extra) → IsExtra r.kind e → bytes_eq e.code (codes "PTC") ≡ false = λ e x. ptc_apart r.kind t e x in
-        let one = body_value (codes "PTC") (decimal (length r.points)) s r h refl refl refl (ap (map (λ (z : Entry). z.value)) body) behind_none_ptc apart in
+        let one = body_value (codes "PTC") (decimal (length r.points)) s r h refl refl refl (ap (map (λ (z : ZoneData). z.value)) body) behind_none_ptc apart in
         let own : kind_in (zones_of_record s r) ≡ Some Par = named ∙ ap (λ x. Some x) t in
         rw own (right_count (codes "PTC") (codes "COR") (zones_of_record s r) (length r.points) k.few_points one (point_count s r (record_again s r h) (rw t refl)))
       where
@@ -254,7 +254,7 @@ right_end_count s r h k = go r.kind refl (kind_is (zones_of_record s r) (settled
     go Lnk t named =
         let body : filter (has_code (codes "FTC")) (zones_of_body r.kind r.points r.ends) ≡ zone_text (codes "FTC") 83 78 (decimal (length r.ends)) ∷ [] = rw t (ftc_found r.points r.ends) in
         let apart : (e : Extra) → IsExtra r.kind e → bytes_eq e.code (codes "FTC") ≡ false = λ e x. ftc_apart r.kind t e x in
-        let one = body_value (codes "FTC") (decimal (length r.ends)) s r h refl refl refl (ap (map (λ (z : Entry). z.value)) body) behind_none_ftc apart in
+        let one = body_value (codes "FTC") (decimal (length r.ends)) s r h refl refl refl (ap (map (λ (z : ZoneData). z.value)) body) behind_none_ftc apart in
         let own : kind_in (zones_of_record s r) ≡ Some Lnk = named ∙ ap (λ x. Some x) t in
         rw own (right_count (codes "FTC") (codes "FTP") (zones_of_record s r) (length r.ends) k.few_ends one (end_count s r (record_again s r h) (rw t refl)))
       where
@@ -281,7 +281,7 @@ right_places s r h k = go (has_points r.kind) refl
     go true t = right_points r.kind (zones_of_record s r) r.points (kind_is (zones_of_record s r) (settled_record s r) (record_again s r h)) t (sym (ap (λ b. cond b (map point (values (codes "COR") (zones_of_record s r))) []) t) ∙ (record_again s r h).points) (and_parts _ _ k.shape).0
     go false t = no_points_wanted r.kind (zones_of_record s r) (kind_is (zones_of_record s r) (settled_record s r) (record_again s r h)) t
       where
-        no_points_wanted : (kind : Kind) (g : List Entry) → kind_in g ≡ Some kind → has_points kind ≡ false → has_bad_point g ≡ false
+        no_points_wanted : (kind : Kind) (g : List ZoneData) → kind_in g ≡ Some kind → has_points kind ≡ false → has_bad_point g ≡ false
         no_points_wanted Pfe g e t = rw e refl
         no_points_wanted Fea g e t = rw e refl
         no_points_wanted Lnk g e t = rw e refl
@@ -291,30 +291,30 @@ right_places s r h k = go (has_points r.kind) refl
 -- ---- 207
 
 -- a zone that is neither an end nor an SNS
-abbrev IsOther : Entry → Type 0
+abbrev IsOther : ZoneData → Type 0
 IsOther z = (points_at z ≡ false) × (has_code (codes "SNS") z ≡ false)
 
-no_sns_left : (zs : List Entry) → AllByRecursion IsOther zs → count_until points_at (codes "SNS") zs ≡ 0
+no_sns_left : (zs : List ZoneData) → AllByRecursion IsOther zs → count_until points_at (codes "SNS") zs ≡ 0
 no_sns_left [] h = refl
 no_sns_left (z ∷ zs) h = rw (h.0.0, h.0.1) (no_sns_left zs h.1)
 
-abbrev ends_repeat : List Entry → Bool
+abbrev ends_repeat : List ZoneData → Bool
 ends_repeat zs = repeats points_at points_at (codes "SNS") zs
 
-ends_past : (zs more : List Entry) → AllByRecursion IsOther zs → ends_repeat (zs ++ more) ≡ ends_repeat more
+ends_past : (zs more : List ZoneData) → AllByRecursion IsOther zs → ends_repeat (zs ++ more) ≡ ends_repeat more
 ends_past [] more h = refl
 ends_past (z ∷ zs) more h = rw h.0.0 (ends_past zs more h.1)
 
-ends_none : (zs : List Entry) → AllByRecursion IsOther zs → ends_repeat zs ≡ false
+ends_none : (zs : List ZoneData) → AllByRecursion IsOther zs → ends_repeat zs ≡ false
 ends_none [] h = refl
 ends_none (z ∷ zs) h = rw h.0.0 (ends_none zs h.1)
 
-next_count : (xs : List End) (more : List Entry) → AllByRecursion IsOther more → count_until points_at (codes "SNS") (flat_map zones_of_end xs ++ more) ≡ 0
+next_count : (xs : List End) (more : List ZoneData) → AllByRecursion IsOther more → count_until points_at (codes "SNS") (flat_map zones_of_end xs ++ more) ≡ 0
 unfolding zones_of_end
 next_count [] more h = no_sns_left more h
 next_count (x ∷ xs) more h = refl
 
-ends_one : (x : End) (more : List Entry) → count_until points_at (codes "SNS") more ≡ 0 → ends_repeat (zones_of_end x ++ more) ≡ ends_repeat more
+ends_one : (x : End) (more : List ZoneData) → count_until points_at (codes "SNS") more ≡ 0 → ends_repeat (zones_of_end x ++ more) ≡ ends_repeat more
 unfolding zones_of_end
 ends_one x more none = by_sns x.sns
   where
@@ -322,21 +322,21 @@ ends_one x more none = by_sns x.sns
     by_sns None = rw none refl
     by_sns (Some text) = rw none refl
 
-ends_all : (xs : List End) (more : List Entry) → AllByRecursion IsOther more → ends_repeat (flat_map zones_of_end xs ++ more) ≡ false
+ends_all : (xs : List End) (more : List ZoneData) → AllByRecursion IsOther more → ends_repeat (flat_map zones_of_end xs ++ more) ≡ false
 ends_all [] more h = ends_none more h
 ends_all (x ∷ xs) more h =
     ap ends_repeat (append_assoc (zones_of_end x) (flat_map zones_of_end xs) more)
     ∙ ends_one x (flat_map zones_of_end xs ++ more) (next_count xs more h) ∙ ends_all xs more h
 
-stray_sns_past : (zs more : List Entry) → AllByRecursion IsOther zs → has_stray (zs ++ more) ≡ has_stray more
+stray_sns_past : (zs more : List ZoneData) → AllByRecursion IsOther zs → has_stray (zs ++ more) ≡ has_stray more
 stray_sns_past [] more h = refl
 stray_sns_past (z ∷ zs) more h = sym (stray_sns_goes_on z (zs ++ more) h.0.0 h.0.1) ∙ stray_sns_past zs more h.1
 
-stray_sns_none : (zs : List Entry) → AllByRecursion IsOther zs → has_stray zs ≡ false
+stray_sns_none : (zs : List ZoneData) → AllByRecursion IsOther zs → has_stray zs ≡ false
 stray_sns_none [] h = refl
 stray_sns_none (z ∷ zs) h = sym (stray_sns_goes_on z zs h.0.0 h.0.1) ∙ stray_sns_none zs h.1
 
-stray_sns_ends : (xs : List End) (more : List Entry) → AllByRecursion IsOther more → has_stray (flat_map zones_of_end xs ++ more) ≡ false
+stray_sns_ends : (xs : List End) (more : List ZoneData) → AllByRecursion IsOther more → has_stray (flat_map zones_of_end xs ++ more) ≡ false
 unfolding zones_of_end
 stray_sns_ends [] more h = stray_sns_none more h
 stray_sns_ends (x ∷ xs) more h = refl
@@ -348,7 +348,7 @@ no_end_apart Par t e h = absurd cc
 no_end_apart Pfe t e h = absurd cc
 no_end_apart Fea t e h = absurd cc
 
-abbrev link_front : Letters → Record → List Entry
+abbrev link_front : Letters → Record → List ZoneData
 link_front s r = zone_text (codes "RTY") 83 65 (kind_code r.kind) ∷ zone_text (codes "RID") 83 65 r.rid ∷ zone_text (codes "SCP") 67 80 (class_text r.scp) ∷ zone_text (codes "FTC") 83 78 (decimal (length r.ends)) ∷ []
 
 link_front_other : (s : Letters) (r : Record) → AllByRecursion IsOther (link_front s r)

@@ -5,7 +5,7 @@ use Rattle.std.specs.List.{AllByRecursion, AllZip, list_any, before_first, onto_
 use Rattle.std.proofs.lemmas.Bool.{and_from, or_parts, not-true, false_from_ne_true, eq-eqb, le-leb, ltb-false}
 use Rattle.std.proofs.lemmas.List.{length-map, nil_from_length}
 use Rattle.std.proofs.lemmas.List.Elements.{All-from_recursion, recursion_from_All}
-use Rattle.edi_line.specs.Entry.{Entry, has_code, first}
+use Rattle.edi_line.specs.ZoneData.{ZoneData, has_code, first}
 use Rattle.edi_line.specs.LineRules.{BreaksLineRule, IsZonesOf}
 use Rattle.edi_line.specs.Number.{size_of, MOST}
 use Rattle.edi_line.specs.inner.Number.{number}
@@ -140,15 +140,15 @@ point_read text = point_by_parts (parts text)
 
 -- ---- values of zones
 
-values_one_line : (p : Entry → Bool) (zs : List Entry) → AllByRecursion IsPrintable zs → AllByRecursion IsOneLine (map (λ (z : Entry). z.value) (filter p zs))
+values_one_line : (p : ZoneData → Bool) (zs : List ZoneData) → AllByRecursion IsPrintable zs → AllByRecursion IsOneLine (map (λ (z : ZoneData). z.value) (filter p zs))
 values_one_line p [] h = tt
 values_one_line p (z ∷ zs) h = go (values_one_line p zs h.1) (p z)
   where
-    go : AllByRecursion IsOneLine (map (λ (y : Entry). y.value) (filter p zs)) → (b : Bool) → AllByRecursion IsOneLine (map (λ (y : Entry). y.value) (cond b (z ∷ filter p zs) (filter p zs)))
+    go : AllByRecursion IsOneLine (map (λ (y : ZoneData). y.value) (filter p zs)) → (b : Bool) → AllByRecursion IsOneLine (map (λ (y : ZoneData). y.value) (cond b (z ∷ filter p zs) (filter p zs)))
     go more true = (h.0.one_line, more)
     go more false = more
 
-printables : (zs : List Entry) → AreGroupZones zs → AllByRecursion IsPrintable zs
+printables : (zs : List ZoneData) → AreGroupZones zs → AllByRecursion IsPrintable zs
 printables [] h = tt
 printables (z ∷ zs) h = (h.0.printable, printables zs h.1)
 
@@ -173,7 +173,7 @@ record IsReadAttribute (a : Attribute) : Type 0 where
   name : IsName a.atp
   line : IsLineAttribute a
 
-set_one_line : (zs : List Entry) → AllByRecursion IsPrintable zs → IfSome (set_after zs) IsOneLine
+set_one_line : (zs : List ZoneData) → AllByRecursion IsPrintable zs → IfSome (set_after zs) IsOneLine
 unfolding set_after
 set_one_line [] h = tt
 set_one_line (z ∷ zs) h = go (set_one_line zs h.1) (opens z || closes z) (has_code (codes "TEX") z)
@@ -183,7 +183,7 @@ set_one_line (z ∷ zs) h = go (set_one_line zs h.1) (opens z || closes z) (has_
     go more false true = h.0.one_line
     go more false false = more
 
-value_one_line : (zs : List Entry) → AllByRecursion IsPrintable zs → IsOneLine (value_after zs)
+value_one_line : (zs : List ZoneData) → AllByRecursion IsPrintable zs → IsOneLine (value_after zs)
 unfolding value_after
 value_one_line [] h = none_empty
 value_one_line (z ∷ zs) h = go (value_one_line zs h.1) (opens z) (closes z)
@@ -200,7 +200,7 @@ attribute_read class tex atv c t v = go (class_of class) (class_read class c)
     go None k = tt
     go (Some n) k = record { name = k.name; line = record { class = k.line; set = t; value = v } }
 
-attributes_read : (zs : List Entry) → AllByRecursion IsPrintable zs → AllByRecursion (λ o. IfSome o IsReadAttribute) (attributes zs)
+attributes_read : (zs : List ZoneData) → AllByRecursion IsPrintable zs → AllByRecursion (λ o. IfSome o IsReadAttribute) (attributes zs)
 unfolding attributes
 attributes_read [] h = tt
 attributes_read (z ∷ zs) h = go (attributes_read zs h.1) (opens z)
@@ -215,7 +215,7 @@ record IsReadEnd (e : End) : Type 0 where
   name : IsName e.target
   line : IsLineEnd e
 
-sns_one_line : (zs : List Entry) → AllByRecursion IsPrintable zs → IfSome (sns_after zs) IsOneLine
+sns_one_line : (zs : List ZoneData) → AllByRecursion IsPrintable zs → IfSome (sns_after zs) IsOneLine
 unfolding sns_after
 sns_one_line [] h = tt
 sns_one_line (z ∷ zs) h = go (sns_one_line zs h.1) (points_at z) (has_code (codes "SNS") z)
@@ -232,7 +232,7 @@ end_read text sns h k = go (pointer text) (pointer_read text h)
     go None l = tt
     go (Some p) l = record { name = l.name; line = record { target = l.line; sns = k } }
 
-ends_read : (zs : List Entry) → AllByRecursion IsPrintable zs → AllByRecursion (λ o. IfSome o IsReadEnd) (ends zs)
+ends_read : (zs : List ZoneData) → AllByRecursion IsPrintable zs → AllByRecursion (λ o. IfSome o IsReadEnd) (ends zs)
 unfolding ends
 ends_read [] h = tt
 ends_read (z ∷ zs) h = go (ends_read zs h.1) (points_at z)
@@ -263,10 +263,10 @@ value_own true text = go (number text) refl (in_range text)
     go None e k = λ _. e
     go (Some m) e k = (refl, k)
 
-abbrev place_made : Bool → Entry → Placed
+abbrev place_made : Bool → ZoneData → Placed
 place_made b z = record { open_before = b; zone = z }
 
-extra_read : (kind : Kind) (before : Bool) (z : Entry) → IsGroupZone z → is_extra kind (place_made before z) ≡ true → IsReadExtra kind (extra z)
+extra_read : (kind : Kind) (before : Bool) (z : ZoneData) → IsGroupZone z → is_extra kind (place_made before z) ≡ true → IsReadExtra kind (extra z)
 extra_read kind before z h e =
     let none = or_parts (has_code (codes "TEX") z && before) (is_known kind z.code) (not-true _ e) in
     record {
@@ -277,7 +277,7 @@ extra_read kind before z h e =
 abbrev extras_in : List Placed → List Extra
 extras_in ps = map (λ (p : Placed). extra p.zone) ps
 
-extras_read : (kind : Kind) (before : Bool) (zs : List Entry) → AreGroupZones zs → AllByRecursion (IsReadExtra kind) (extras_in (filter (is_extra kind) (placed before zs)))
+extras_read : (kind : Kind) (before : Bool) (zs : List ZoneData) → AreGroupZones zs → AllByRecursion (IsReadExtra kind) (extras_in (filter (is_extra kind) (placed before zs)))
 unfolding placed
 extras_read kind before [] h = tt
 extras_read kind before (z ∷ zs) h = go (extras_read kind (is_open_after before z) zs h.1) (is_extra kind (place_made before z)) refl
@@ -292,34 +292,34 @@ extras_read kind before (z ∷ zs) h = go (extras_read kind (is_open_after befor
 -- ---- the rules of records
 
 -- no rule is broken in the group
-abbrev IsKept : List Entry → Type 0
+abbrev IsKept : List ZoneData → Type 0
 IsKept group = (rule : ℕ) → ¬ (BreaksTest (record_tests group) rule)
 
-kept_each : (groups : List (List Entry)) → ((before : List (List Entry)) (group : List Entry) (after : List (List Entry)) → groups ≡ before ++ group ∷ after → IsKept group) → AllByRecursion IsKept groups
+kept_each : (groups : List (List ZoneData)) → ((before : List (List ZoneData)) (group : List ZoneData) (after : List (List ZoneData)) → groups ≡ before ++ group ∷ after → IsKept group) → AllByRecursion IsKept groups
 kept_each [] k = tt
 kept_each (g ∷ gs) k = (k [] g gs refl, kept_each gs (λ before group after e. k (g ∷ before) group after (ap (λ t. g ∷ t) e)))
 
-all_kept : (zones : List Entry) → IsUnbroken (FailsTest zones) → AllByRecursion IsKept (groups_of zones)
+all_kept : (zones : List ZoneData) → IsUnbroken (FailsTest zones) → AllByRecursion IsKept (groups_of zones)
 all_kept zones unbroken =
     kept_each (groups_of zones) (λ before group after e rule b. unbroken rule (length before + 1) (record { before = before; group = group; after = after; cut = e; place_is = refl; breaks = b }))
 
-identifier_kept : (group : List Entry) → IsKept group → has_no_identifier group ≡ false
+identifier_kept : (group : List ZoneData) → IsKept group → has_no_identifier group ≡ false
 identifier_kept group k = false_from_ne_true (has_no_identifier group) (λ e. k 202 (inr (inl (refl, e))))
 
-point_kept : (group : List Entry) → IsKept group → has_bad_point group ≡ false
+point_kept : (group : List ZoneData) → IsKept group → has_bad_point group ≡ false
 point_kept group k = false_from_ne_true (has_bad_point group) (λ e. k 206 (inr (inr (inr (inr (inr (inl (refl, e))))))))
 
-end_kept : (group : List Entry) → IsKept group → has_bad_end group ≡ false
+end_kept : (group : List ZoneData) → IsKept group → has_bad_end group ≡ false
 end_kept group k = false_from_ne_true (has_bad_end group) (λ e. k 207 (inr (inr (inr (inr (inr (inr (inl (refl, e)))))))))
 
-pointer_kept : (group : List Entry) → IsKept group → has_unknown_pointer group ≡ false
+pointer_kept : (group : List ZoneData) → IsKept group → has_unknown_pointer group ≡ false
 pointer_kept group k = false_from_ne_true (has_unknown_pointer group) (λ e. k 208 (inr (inr (inr (inr (inr (inr (inr (inl (refl, e))))))))))
 
 not_false : (b : Bool) → not b ≡ false → b ≡ true
 not_false true e = refl
 not_false false e = cc
 
-identifier_read : (group : List Entry) (r : Record) → ReadsAs group r → IsKept group → is_identifier r.rid ≡ true
+identifier_read : (group : List ZoneData) (r : Record) → ReadsAs group r → IsKept group → is_identifier r.rid ≡ true
 identifier_read group r h k = not_false (is_identifier r.rid) (sym (ap (λ vs. not (just_one is_identifier vs)) h.rid) ∙ identifier_kept group k)
 
 -- ---- points and ends where the kind has them
@@ -340,15 +340,15 @@ few_chosen : {X : Type 0} (b : Bool) (os : List (Option X)) (xs : List X) (n : �
 few_chosen true os xs n e h = let same = same_length os xs e in omega (arith, same, h)
 few_chosen false os xs n e h = let same = ap length (none_of xs e) in omega (arith, same)
 
-few_values : (code : List ℕ) (zs : List Entry) → length (values code zs) ≤ length zs
+few_values : (code : List ℕ) (zs : List ZoneData) → length (values code zs) ≤ length zs
 few_values code [] = omega arith
 few_values code (z ∷ zs) = go (has_code code z) (few_values code zs)
   where
-    go : (b : Bool) → length (values code zs) ≤ length zs → length (map (λ (y : Entry). y.value) (cond b (z ∷ filter (has_code code) zs) (filter (has_code code) zs))) ≤ length (z ∷ zs)
+    go : (b : Bool) → length (values code zs) ≤ length zs → length (map (λ (y : ZoneData). y.value) (cond b (z ∷ filter (has_code code) zs) (filter (has_code code) zs))) ≤ length (z ∷ zs)
     go true h = omega (arith, h)
     go false h = omega (arith, h)
 
-few_attributes : (zs : List Entry) → length (attributes zs) ≤ length zs
+few_attributes : (zs : List ZoneData) → length (attributes zs) ≤ length zs
 unfolding attributes
 few_attributes [] = omega arith
 few_attributes (z ∷ zs) = go (opens z) (few_attributes zs)
@@ -373,7 +373,7 @@ two_or_more n e = le-leb 2 n (ltb-false n 2 e)
 none_counted : {X : Type 0} (xs : List X) → [] ≡ map Some xs → eqb (length xs) 0 ≡ true
 none_counted xs e = ap (λ t. eqb (length t) 0) (none_of xs e)
 
-shape_read : (kind : Kind) (group : List Entry) (ps : List Point) (es : List End) → kind_in group ≡ Some kind → cond (has_points kind) (map point (values (codes "COR") group)) [] ≡ map Some ps
+shape_read : (kind : Kind) (group : List ZoneData) (ps : List Point) (es : List End) → kind_in group ≡ Some kind → cond (has_points kind) (map point (values (codes "COR") group)) [] ≡ map Some ps
     → cond (is_link kind) (ends group) [] ≡ map Some es → has_bad_point group ≡ false → has_bad_end group ≡ false → (may_have_points kind (length ps) && may_have_ends kind (length es)) ≡ true
 shape_read Pno group ps es k p e bad_point bad_end =
     let count : length (values (codes "COR") group) ≡ length ps = sym (length-map (values (codes "COR") group) point) ∙ same_length (map point (values (codes "COR") group)) ps p in
@@ -396,7 +396,7 @@ shape_read Lnk group ps es k p e bad_point bad_end =
 abbrev PointsToNothing : Extra → Type 0
 PointsToNothing e = e.format ≡ 80 → value_text e.value ≡ []
 
-nothing_held : (z : Entry) → ((eqb z.format 80) && ltb 0 (length z.value)) ≡ false → PointsToNothing (extra z)
+nothing_held : (z : ZoneData) → ((eqb z.format 80) && ltb 0 (length z.value)) ≡ false → PointsToNothing (extra z)
 nothing_held z e f = ap (λ n. value_text (value_of (may_be_number n) z.value)) f ∙ nothing (ltb 0 (length z.value)) refl
   where
     nothing : (b : Bool) → ltb 0 (length z.value) ≡ b → z.value ≡ []
@@ -435,7 +435,7 @@ record IsReadRecord (r : Record) : Type 0 where
   line : IsLineRecord r
   rules : FollowsRules r
 
-record_read : (group : List Entry) (r : Record) → AreGroupZones group → ReadsAs group r → length group < 2 ^ 64 → IsKept group → IsReadRecord r
+record_read : (group : List ZoneData) (r : Record) → AreGroupZones group → ReadsAs group r → length group < 2 ^ 64 → IsKept group → IsReadRecord r
 record_read group r h s few kept =
     let lines = printables group h in
     let rid = subst (AllByRecursion IsOneLine) s.rid (values_one_line (has_code (codes "RID")) group lines) in
@@ -482,7 +482,7 @@ record_read group r h s few kept =
       };
     }
 
-records_read : (groups : List (List Entry)) (rs : List Record) → AllZip ReadsAs groups rs → AllByRecursion AreGroupZones groups → AllByRecursion (λ g. length g < 2 ^ 64) groups → AllByRecursion IsKept groups → AllByRecursion IsReadRecord rs
+records_read : (groups : List (List ZoneData)) (rs : List Record) → AllZip ReadsAs groups rs → AllByRecursion AreGroupZones groups → AllByRecursion (λ g. length g < 2 ^ 64) groups → AllByRecursion IsKept groups → AllByRecursion IsReadRecord rs
 records_read [] [] s h few kept = tt
 records_read [] (r ∷ rs) s h few kept = absurd s
 records_read (g ∷ gs) [] s h few kept = tt
@@ -492,20 +492,20 @@ record_parts : (rs : List Record) → AllByRecursion IsReadRecord rs → AllByRe
 record_parts [] h = (tt, tt, tt)
 record_parts (r ∷ rs) h = let more = record_parts rs h.1 in ((h.0.is, more.0), (h.0.line, more.1), (h.0.rules, more.2))
 
-fewer : (n : ℕ) → n < 2 ^ 64 → (groups : List (List Entry)) → AllByRecursion (λ g. length g ≤ n) groups → AllByRecursion (λ g. length g < 2 ^ 64) groups
+fewer : (n : ℕ) → n < 2 ^ 64 → (groups : List (List ZoneData)) → AllByRecursion (λ g. length g ≤ n) groups → AllByRecursion (λ g. length g < 2 ^ 64) groups
 fewer n h [] k = tt
 fewer n h (g ∷ gs) k = (omega (arith, h, k.0), fewer n h gs k.1)
 
-charset_line : (zones : List Entry) → AllByRecursion IsPrintable zones → IfSome (option_map (λ (e : Entry). e.value) (charset_of zones)) IsOneLine
+charset_line : (zones : List ZoneData) → AllByRecursion IsPrintable zones → IfSome (option_map (λ (e : ZoneData). e.value) (charset_of zones)) IsOneLine
 charset_line [] h = tt
 charset_line (z ∷ zs) h = go (has_code (codes "CSE") z) (charset_line zs h.1)
   where
-    go : (b : Bool) → IfSome (option_map (λ (e : Entry). e.value) (charset_of zs)) IsOneLine → IfSome (option_map (λ (e : Entry). e.value) (first (cond b (z ∷ filter (has_code (codes "CSE")) zs) (filter (has_code (codes "CSE")) zs)))) IsOneLine
+    go : (b : Bool) → IfSome (option_map (λ (e : ZoneData). e.value) (charset_of zs)) IsOneLine → IfSome (option_map (λ (e : ZoneData). e.value) (first (cond b (z ∷ filter (has_code (codes "CSE")) zs) (filter (has_code (codes "CSE")) zs)))) IsOneLine
     go true more = h.0.one_line
     go false more = more
 
 -- What a file states can be printed.
-pub sheet_read : (bytes : List ℕ) (zones : List Entry) (sheet : Sheet) → length bytes < 2 ^ 64 → IsZonesOf bytes zones → IsUnbroken (BreaksLineRule bytes)
+pub sheet_read : (bytes : List ℕ) (zones : List ZoneData) (sheet : Sheet) → length bytes < 2 ^ 64 → IsZonesOf bytes zones → IsUnbroken (BreaksLineRule bytes)
     → StatesSheet zones sheet → IsUnbroken (BreaksRecordRule zones) → IsPrintableSheet sheet
 sheet_read bytes zones sheet long are lines states unbroken =
     let of = zones_read bytes zones are in
@@ -514,7 +514,7 @@ sheet_read bytes zones sheet long are lines states unbroken =
     let few : length zones ≤ length bytes = subst (λ zs. length zs ≤ length bytes) (sym of.is) (few_zones_of bytes) in
     let read = record_parts sheet.list (records_read (groups_of zones) sheet.list (all_read (groups_of zones) sheet.list states.records) groups (fewer (length bytes) long (groups_of zones) (few_in_groups zones (length bytes) few)) (all_kept zones rules)) in
     record {
-      cse = subst (λ o. IfSome o IsOneLine) (sym states.cse) (subst (λ zs. IfSome (option_map (λ (e : Entry). e.value) (charset_of zs)) IsOneLine) (sym of.is) (charset_line (zones_of bytes) (zones_printable bytes)));
+      cse = subst (λ o. IfSome o IsOneLine) (sym states.cse) (subst (λ zs. IfSome (option_map (λ (e : ZoneData). e.value) (charset_of zs)) IsOneLine) (sym of.is) (charset_line (zones_of bytes) (zones_printable bytes)));
       records = read.0;
       lines = read.1;
       rules = read.2;

@@ -7,7 +7,7 @@ use Rattle.std.proofs.lemmas.List.Folds.{list_any-append}
 use Rattle.std.proofs.lemmas.Grind.{common_steps}
 use Rattle.std.proofs.lemmas.List.{length-map}
 use Rattle.std.proofs.lemmas.List.Elements.{All-from_recursion}
-use Rattle.edi_line.specs.Entry.{Entry}
+use Rattle.edi_line.specs.ZoneData.{ZoneData}
 use Rattle.edi_line.specs.Lines.{HasNoFeed, IsEnded, IsUnended, AreLines, without_last, content_of}
 use Rattle.edi_line.specs.inner.Lines.{lines_of, contents_of}
 use Rattle.edi_line.specs.Spelling.{Spelling, Reading, is_code_byte, is_printable}
@@ -288,20 +288,20 @@ runs_from done (line ∷ lines) sound =
           (subst (λ b. Runs (some_bears is_zone (done ++ line ∷ [])) (some_bears is_bom (done ++ line ∷ [])) b lines) (borne (bears is_rty) done line) more)),
     )
 
-abbrev AreFree : List Entry → Type 0
+abbrev AreFree : List ZoneData → Type 0
 AreFree zones = AllByRecursion (λ z. is_free z.code ≡ true) zones
 
-abbrev zones_after : ℕ → List Reading → List Entry
+abbrev zones_after : ℕ → List Reading → List ZoneData
 zones_after n lines = whole_zones (parts_after n lines)
 
 -- the zones that a line with this code brings, and those behind it
-abbrev with_line : ℕ → Spelling → List Reading → List ℕ → List Entry
+abbrev with_line : ℕ → Spelling → List Reading → List ℕ → List ZoneData
 with_line n s lines code = whole_zones (part_by (kind_of code) (suc n) (spelling_by code s) ∷ parts_after (suc n) lines)
 
 abbrev line_by : Spelling → List ℕ → Reading
 line_by s code = Ok (Some (spelling_by code s))
 
-abbrev AreFreeIn : List Entry → Type 0
+abbrev AreFreeIn : List ZoneData → Type 0
 AreFreeIn zones = AreFree (before_end zones) × AllByRecursion AreFree (groups_of zones)
 
 -- behind an RTY
@@ -349,17 +349,17 @@ free_front n (Ok (Some s) ∷ lines) r = here (free_front (suc n) lines) s.code 
 
 -- ---- the zones of a record
 
-pub record IsGroupZone (z : Entry) : Type 0 where
+pub record IsGroupZone (z : ZoneData) : Type 0 where
   pub printable : IsPrintable z
   pub free : is_free z.code ≡ true
 
-abbrev ArePrintable : List Entry → Type 0
+abbrev ArePrintable : List ZoneData → Type 0
 ArePrintable zones = AllByRecursion IsPrintable zones
 
-abbrev pub AreGroupZones : List Entry → Type 0
+abbrev pub AreGroupZones : List ZoneData → Type 0
 AreGroupZones zones = AllByRecursion IsGroupZone zones
 
-before_printable : (zones : List Entry) → ArePrintable zones → ArePrintable (before_end zones)
+before_printable : (zones : List ZoneData) → ArePrintable zones → ArePrintable (before_end zones)
 before_printable [] h = tt
 before_printable (z ∷ zs) h = go (ends_group z) (before_printable zs h.1)
   where
@@ -367,7 +367,7 @@ before_printable (z ∷ zs) h = go (ends_group z) (before_printable zs h.1)
     go true more = tt
     go false more = (h.0, more)
 
-groups_printable : (zones : List Entry) → ArePrintable zones → AllByRecursion ArePrintable (groups_of zones)
+groups_printable : (zones : List ZoneData) → ArePrintable zones → AllByRecursion ArePrintable (groups_of zones)
 groups_printable [] h = tt
 groups_printable (z ∷ zs) h = go (begins_group z) (groups_printable zs h.1)
   where
@@ -375,11 +375,11 @@ groups_printable (z ∷ zs) h = go (begins_group z) (groups_printable zs h.1)
     go true more = ((h.0, before_printable zs h.1), more)
     go false more = more
 
-both : (zones : List Entry) → ArePrintable zones → AreFree zones → AreGroupZones zones
+both : (zones : List ZoneData) → ArePrintable zones → AreFree zones → AreGroupZones zones
 both [] h k = tt
 both (z ∷ zs) h k = (record { printable = h.0; free = k.0 }, both zs h.1 k.1)
 
-each_both : (groups : List (List Entry)) → AllByRecursion ArePrintable groups → AllByRecursion AreFree groups → AllByRecursion AreGroupZones groups
+each_both : (groups : List (List ZoneData)) → AllByRecursion ArePrintable groups → AllByRecursion AreFree groups → AllByRecursion AreGroupZones groups
 each_both [] h k = tt
 each_both (g ∷ gs) h k = (both g h.0 k.0, each_both gs h.1 k.1)
 
@@ -389,7 +389,7 @@ groups_readable bytes unbroken =
     each_both (groups_of (zones_of bytes)) (groups_printable (zones_of bytes) (zones_printable bytes))
     (free_front 0 (readings_of bytes) (runs_from [] (readings_of bytes) (λ rule place b. unbroken_read bytes unbroken rule place (inl b))))
 
-few_before : (zones : List Entry) → length (before_end zones) ≤ length zones
+few_before : (zones : List ZoneData) → length (before_end zones) ≤ length zones
 few_before [] = omega arith
 few_before (z ∷ zs) = go (ends_group z) (few_before zs)
   where
@@ -398,7 +398,7 @@ few_before (z ∷ zs) = go (ends_group z) (few_before zs)
     go false h = omega (arith, h)
 
 -- no group has more zones than the file
-pub few_in_groups : (zones : List Entry) (n : ℕ) → length zones ≤ n → AllByRecursion (λ g. length g ≤ n) (groups_of zones)
+pub few_in_groups : (zones : List ZoneData) (n : ℕ) → length zones ≤ n → AllByRecursion (λ g. length g ≤ n) (groups_of zones)
 few_in_groups [] n h = tt
 few_in_groups (z ∷ zs) n h = go (begins_group z) (few_in_groups zs n (omega (arith, h)))
   where

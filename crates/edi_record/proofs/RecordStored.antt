@@ -3,7 +3,7 @@ use Rattle.std.proofs.Common.{◌≡◌, ℕ, ◌+◌, inl, inr, Bool, true, fal
 use Rattle.std.specs.List.{list_any}
 use Rattle.std.proofs.lemmas.Bool.{or_right, or_parts}
 use Rattle.std.proofs.lemmas.Slice.Eq.{bytes_eq-Decides}
-use Rattle.edi_line.specs.Entry.{Entry, has_code}
+use Rattle.edi_line.specs.ZoneData.{ZoneData, has_code}
 use Rattle.edi_record.specs.Records.{values, has_points, is_link, known_anywhere, known_in, is_known}
 use Rattle.edi_record.specs.inner.Records.{is_open_after, is_extra}
 use Rattle.edi_record.specs.inner.RecordRules.{is_arc}
@@ -21,24 +21,24 @@ use Rattle.edi_record.proofs.Stated.{any_apart}
 
 -- ---- texts
 
-pub texts_pass : (o : Only) (code : List ℕ) (z : Entry) (left : List Entry) (all : List (List ℕ)) → has_code code z ≡ false → AreTexts o (values code (z ∷ left)) all → AreTexts o (values code left) all
+pub texts_pass : (o : Only) (code : List ℕ) (z : ZoneData) (left : List ZoneData) (all : List (List ℕ)) → has_code code z ≡ false → AreTexts o (values code (z ∷ left)) all → AreTexts o (values code left) all
 texts_pass o code z left all e h = subst (λ vs. AreTexts o vs all) (value_skipped code z left e) h
 
-pub text_taken : (old new : Only) (code text : List ℕ) (z : Entry) (left : List Entry) (all : List (List ℕ)) → has_code code z ≡ true → text ≡ z.value
+pub text_taken : (old new : Only) (code text : List ℕ) (z : ZoneData) (left : List ZoneData) (all : List (List ℕ)) → has_code code z ≡ true → text ≡ z.value
     → ((left all : List (List ℕ)) → AreTexts old (text ∷ left) all → AreTexts new left all) → AreTexts old (values code (z ∷ left)) all → AreTexts new (values code left) all
 text_taken old new code text z left all e same takes h = takes (values code left) all (subst (λ vs. AreTexts old vs all) (value_here code z left text e same) h)
 
 -- ---- counts
 
-pub count_pass : (code : List ℕ) (n all : ℕ) (z : Entry) (left : List Entry) → has_code code z ≡ false → all ≡ n + length (values code (z ∷ left)) → all ≡ n + length (values code left)
+pub count_pass : (code : List ℕ) (n all : ℕ) (z : ZoneData) (left : List ZoneData) → has_code code z ≡ false → all ≡ n + length (values code (z ∷ left)) → all ≡ n + length (values code left)
 count_pass code n all z left e h = h ∙ ap (λ vs. n + length vs) (value_skipped code z left e)
 
-pub count_taken : (code : List ℕ) (n all : ℕ) (z : Entry) (left : List Entry) → has_code code z ≡ true → all ≡ n + length (values code (z ∷ left)) → all ≡ n + 1 + length (values code left)
+pub count_taken : (code : List ℕ) (n all : ℕ) (z : ZoneData) (left : List ZoneData) → has_code code z ≡ true → all ≡ n + length (values code (z ∷ left)) → all ≡ n + 1 + length (values code left)
 count_taken code n all z left e h = let here = ap length (value_here code z left z.value e refl) in omega (arith, h, here)
 
 -- ---- the parts that don't take a zone with a code
 
-pub record Others (code : List ℕ) (d : KeptRecord) (z : Entry) (left group : List Entry) : Type 0 where
+pub record Others (code : List ℕ) (d : KeptRecord) (z : ZoneData) (left group : List ZoneData) : Type 0 where
   pub identifier : bytes_eq code (codes "RID") ≡ false → AreTexts d.identifier (values (codes "RID") left) (values (codes "RID") group)
   pub class : bytes_eq code (codes "SCP") ≡ false → AreTexts d.class (values (codes "SCP") left) (values (codes "SCP") group)
   pub attribute_count : bytes_eq code (codes "ATC") ≡ false → AreTexts d.attribute_count (values (codes "ATC") left) (values (codes "ATC") group)
@@ -51,7 +51,7 @@ pub record Others (code : List ℕ) (d : KeptRecord) (z : Entry) (left group : L
   pub ends : bytes_eq code (codes "FTP") ≡ false → bytes_eq code (codes "SNS") ≡ false → is_link d.kind ≡ true → StoresEnds d.ends left group
   pub extras : is_known d.kind code ≡ true → d.attributes.is_broken ≡ false → StoresExtras d.kind (is_open_after (is_some d.attributes.opened) z) d.extras left group
 
-pub others : (code : List ℕ) (d : KeptRecord) (z : Entry) (left group : List Entry) → z.code ≡ code → StoresRecord d (z ∷ left) group → Others code d z left group
+pub others : (code : List ℕ) (d : KeptRecord) (z : ZoneData) (left group : List ZoneData) → z.code ≡ code → StoresRecord d (z ∷ left) group → Others code d z left group
 others code d z left group is h = record {
   identifier = λ e. texts_pass d.identifier (codes "RID") z left (values (codes "RID") group) (no (codes "RID") e) h.identifier;
   class = λ e. texts_pass d.class (codes "SCP") z left (values (codes "SCP") group) (no (codes "SCP") e) h.class;
@@ -73,17 +73,17 @@ others code d z left group is h = record {
     known e = ap not (or_right (has_code (codes "TEX") z && is_some d.attributes.opened) (is_known d.kind z.code) e)
 
 -- no attribute is opened or closed
-pub open_stays : (code : List ℕ) (is_open : Bool) (z : Entry) → z.code ≡ code → bytes_eq code (codes "ATP") ≡ false → bytes_eq code (codes "ATV") ≡ false → is_open_after is_open z ≡ is_open
+pub open_stays : (code : List ℕ) (is_open : Bool) (z : ZoneData) → z.code ≡ code → bytes_eq code (codes "ATP") ≡ false → bytes_eq code (codes "ATV") ≡ false → is_open_after is_open z ≡ is_open
 open_stays code is_open z is e f = rw (ap (λ t. bytes_eq t (codes "ATP")) is ∙ e, ap (λ t. bytes_eq t (codes "ATV")) is ∙ f) refl
 
 -- the extras where this zone, which isn't one, opened and closed no attribute
-pub extras_stay : (code : List ℕ) (d : KeptRecord) (z : Entry) (left group : List Entry) → z.code ≡ code → bytes_eq code (codes "ATP") ≡ false → bytes_eq code (codes "ATV") ≡ false
+pub extras_stay : (code : List ℕ) (d : KeptRecord) (z : ZoneData) (left group : List ZoneData) → z.code ≡ code → bytes_eq code (codes "ATP") ≡ false → bytes_eq code (codes "ATV") ≡ false
     → (d.attributes.is_broken ≡ false → StoresExtras d.kind (is_open_after (is_some d.attributes.opened) z) d.extras left group) → d.attributes.is_broken ≡ false → StoresExtras d.kind (is_some d.attributes.opened) d.extras left group
 extras_stay code d z left group is e f h b = subst (λ o. StoresExtras d.kind o d.extras left group) (open_stays code (is_some d.attributes.opened) z is e f) (h b)
 
 -- ---- a zone with a code
 
-pub has : (code : List ℕ) (z : Entry) → z.code ≡ code → has_code code z ≡ true
+pub has : (code : List ℕ) (z : ZoneData) → z.code ≡ code → has_code code z ≡ true
 has code z is = (bytes_eq-Decides z.code code).1 is
 
 pub no_set : (d : KeptRecord) → (is_some d.attributes.opened && false) ≡ false
@@ -98,7 +98,7 @@ abbrev leaves_open : Bool → KeptAttributes → KeptAttributes → Type 0
 leaves_open is_open old new = new.is_broken ≡ false → (old.is_broken ≡ false) × (is_some new.opened ≡ is_open)
 
 -- the extras where a zone opened or closed an attribute
-pub extras_move : (is_open : Bool) (code : List ℕ) (d : KeptRecord) (new : KeptAttributes) (z : Entry) (left group : List Entry) → z.code ≡ code → cond (bytes_eq code (codes "ATP")) true (cond (bytes_eq code (codes "ATV")) false (is_some d.attributes.opened)) ≡ is_open
+pub extras_move : (is_open : Bool) (code : List ℕ) (d : KeptRecord) (new : KeptAttributes) (z : ZoneData) (left group : List ZoneData) → z.code ≡ code → cond (bytes_eq code (codes "ATP")) true (cond (bytes_eq code (codes "ATV")) false (is_some d.attributes.opened)) ≡ is_open
     → leaves_open is_open d.attributes new → (d.attributes.is_broken ≡ false → StoresExtras d.kind (is_open_after (is_some d.attributes.opened) z) d.extras left group)
     → new.is_broken ≡ false → StoresExtras d.kind (is_some new.opened) d.extras left group
 extras_move is_open code d new z left group is after leaves h b =
@@ -107,7 +107,7 @@ extras_move is_open code d new z left group is after leaves h b =
     subst (λ o. StoresExtras d.kind o d.extras left group) same (h was.0)
 
 -- the extras where the open attribute took a character set
-pub extras_beside_set : (d : KeptRecord) (new : KeptAttributes) (z : Entry) (left group : List Entry) → z.code ≡ codes "TEX" → is_some d.attributes.opened ≡ true → leaves_open (is_some d.attributes.opened) d.attributes new
+pub extras_beside_set : (d : KeptRecord) (new : KeptAttributes) (z : ZoneData) (left group : List ZoneData) → z.code ≡ codes "TEX" → is_some d.attributes.opened ≡ true → leaves_open (is_some d.attributes.opened) d.attributes new
     → (d.attributes.is_broken ≡ false → StoresExtras d.kind (is_some d.attributes.opened) d.extras (z ∷ left) group) → new.is_broken ≡ false → StoresExtras d.kind (is_some new.opened) d.extras left group
 extras_beside_set d new z left group is was leaves h =
     extras_move (is_some d.attributes.opened) (codes "TEX") d new z left group is refl leaves (λ b. extras_pass d.kind (is_some d.attributes.opened) d.extras z left group not_extra (h b))
@@ -115,7 +115,7 @@ extras_beside_set d new z left group is was leaves h =
     not_extra : is_extra d.kind (record { open_before = is_some d.attributes.opened; zone = z }) ≡ false
     not_extra = rw (has (codes "TEX") z is, was) refl
 
-pub set_is_extra : (kind : Kind) (is_open : Bool) (z : Entry) → z.code ≡ codes "TEX" → is_open ≡ false → is_extra kind (record { open_before = is_open; zone = z }) ≡ true
+pub set_is_extra : (kind : Kind) (is_open : Bool) (z : ZoneData) → z.code ≡ codes "TEX" → is_open ≡ false → is_extra kind (record { open_before = is_open; zone = z }) ≡ true
 set_is_extra kind is_open z is none = rw (is, none) (by_kind kind)
   where
     by_kind : (kind : Kind) → not (is_known kind (codes "TEX")) ≡ true
@@ -126,7 +126,7 @@ set_is_extra kind is_open z is none = rw (is, none) (by_kind kind)
     by_kind Lnk = refl
 
 -- the extras with one more
-pub extra_kept : (code : List ℕ) (d : KeptRecord) (new : KeptExtras) (z : Entry) (left group : List Entry) → z.code ≡ code → bytes_eq code (codes "ATP") ≡ false → bytes_eq code (codes "ATV") ≡ false
+pub extra_kept : (code : List ℕ) (d : KeptRecord) (new : KeptExtras) (z : ZoneData) (left group : List ZoneData) → z.code ≡ code → bytes_eq code (codes "ATP") ≡ false → bytes_eq code (codes "ATV") ≡ false
     → is_extra d.kind (record { open_before = is_some d.attributes.opened; zone = z }) ≡ true → TakesExtra z d.extras new
     → (d.attributes.is_broken ≡ false → StoresExtras d.kind (is_some d.attributes.opened) d.extras (z ∷ left) group) → d.attributes.is_broken ≡ false → StoresExtras d.kind (is_some d.attributes.opened) new left group
 extra_kept code d new z left group is e f extra takes h b =
@@ -134,7 +134,7 @@ extra_kept code d new z left group is e f extra takes h b =
 
 -- ---- counts of points or of ends
 
-pub body_count_taken : (d : KeptRecord) (new : Only) (z : Entry) (left group : List Entry) (text : List ℕ) → CodeIs d.kind z.code BodyCount → text ≡ z.value
+pub body_count_taken : (d : KeptRecord) (new : Only) (z : ZoneData) (left group : List ZoneData) (text : List ℕ) → CodeIs d.kind z.code BodyCount → text ≡ z.value
     → ((left all : List (List ℕ)) → AreTexts d.body_count (text ∷ left) all → AreTexts new left all) → StoresRecord d (z ∷ left) group
     → StoresRecord (record { kind = d.kind; identifier = d.identifier; class = d.class; attribute_count = d.attribute_count; body_count = new; counted = d.counted; attributes = d.attributes; points = d.points; ends = d.ends; extras = d.extras }) left group
 body_count_taken d new z left group text (inl (arc, is)) same takes h =
@@ -174,7 +174,7 @@ body_count_taken d new z left group text (inr (link, is)) same takes h =
 abbrev taken_codes : List (List ℕ)
 taken_codes = codes "RID" ∷ codes "SCP" ∷ codes "ATC" ∷ codes "PTC" ∷ codes "FTC" ∷ codes "COR" ∷ codes "FTP" ∷ codes "SNS" ∷ codes "ATP" ∷ codes "ATV" ∷ codes "TEX" ∷ []
 
-passed : (code : List ℕ) (d : KeptRecord) (z : Entry) (left group : List Entry) → z.code ≡ code → list_any (bytes_eq code) taken_codes ≡ false → is_known d.kind code ≡ true → StoresRecord d (z ∷ left) group → StoresRecord d left group
+passed : (code : List ℕ) (d : KeptRecord) (z : ZoneData) (left group : List ZoneData) → z.code ≡ code → list_any (bytes_eq code) taken_codes ≡ false → is_known d.kind code ≡ true → StoresRecord d (z ∷ left) group → StoresRecord d left group
 passed code d z left group is free known h =
     let o = others code d z left group is h in
     let a = any_apart (bytes_eq code) taken_codes free in
@@ -194,14 +194,14 @@ passed code d z left group is free known h =
       extras = extras_stay code d z left group is attributes.0 attributes.1.0 (o.extras known);
     }
 
-pub skipped : (d : KeptRecord) (z : Entry) (left group : List Entry) → CodeIs d.kind z.code Skipped → StoresRecord d (z ∷ left) group → StoresRecord d left group
+pub skipped : (d : KeptRecord) (z : ZoneData) (left group : List ZoneData) → CodeIs d.kind z.code Skipped → StoresRecord d (z ∷ left) group → StoresRecord d left group
 skipped d z left group (inl is) h = passed (codes "RTY") d z left group is refl refl h
 skipped d z left group (inr (inl is)) h = passed (codes "QAC") d z left group is refl refl h
 skipped d z left group (inr (inr is)) h = passed (codes "QAP") d z left group is refl refl h
 
 -- ---- zones whose code isn't known
 
-pub unknown_taken : (d : KeptRecord) (new : KeptExtras) (z : Entry) (left group : List Entry) → CodeIs d.kind z.code Unknown → TakesExtra z d.extras new → StoresRecord d (z ∷ left) group
+pub unknown_taken : (d : KeptRecord) (new : KeptExtras) (z : ZoneData) (left group : List ZoneData) → CodeIs d.kind z.code Unknown → TakesExtra z d.extras new → StoresRecord d (z ∷ left) group
     → StoresRecord (record { kind = d.kind; identifier = d.identifier; class = d.class; attribute_count = d.attribute_count; body_count = d.body_count; counted = d.counted; attributes = d.attributes; points = d.points; ends = d.ends; extras = new }) left group
 unknown_taken d new z left group is takes h =
     let o = others z.code d z left group refl h in

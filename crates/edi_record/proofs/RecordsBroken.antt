@@ -2,7 +2,7 @@
 use Rattle.std.proofs.Common.{◌≡◌, ℕ, ◌+◌, ◌<◌, ◌≤◌, Bool, List, [], ◌∷◌, ◌++◌, length, refl, sym, ap, ◌∙◌, subst, inl, inr, arith, length-append}
 use Rattle.std.proofs.lemmas.List.{append_assoc, length_push}
 use Rattle.edi_line.specs.AllBroken.{AreAllBroken}
-use Rattle.edi_line.specs.Entry.{Entry}
+use Rattle.edi_line.specs.ZoneData.{ZoneData}
 use Rattle.edi_line.specs.Refusal.{Test, test, BreaksTest}
 use Rattle.edi_line.specs.Zones.{groups_of}
 use Rattle.edi_line.specs.inner.AllBroken.{with_broken}
@@ -30,10 +30,10 @@ eight_put at a b c d e f g h l0 l1 l2 l3 l4 l5 l6 l7 l8 p1 p2 p3 p4 p5 p6 p7 p8 
 
 -- ---- one record more
 
-abbrev AlsoGroup : List (List Entry) → List Entry → ℕ → ℕ → Type 0
+abbrev AlsoGroup : List (List ZoneData) → List ZoneData → ℕ → ℕ → Type 0
 AlsoGroup done group = Also (FailsIn done) (length done + 1) (record_tests group)
 
-group_said : (done : List (List Entry)) (group : List Entry) (r p : ℕ) → AlsoGroup done group r p → FailsIn (done ++ group ∷ []) r p
+group_said : (done : List (List ZoneData)) (group : List ZoneData) (r p : ℕ) → AlsoGroup done group r p → FailsIn (done ++ group ∷ []) r p
 group_said done group r p (inl h) = record {
   before = h.before;
   group = h.group;
@@ -44,7 +44,7 @@ group_said done group r p (inl h) = record {
 }
 group_said done group r p (inr h) = record { before = done; group = group; after = []; cut = refl; place_is = h.0; breaks = h.1 }
 
-group_read : (done : List (List Entry)) (group : List Entry) (r p : ℕ) → FailsIn (done ++ group ∷ []) r p → AlsoGroup done group r p
+group_read : (done : List (List ZoneData)) (group : List ZoneData) (r p : ℕ) → FailsIn (done ++ group ∷ []) r p → AlsoGroup done group r p
 group_read done group r p h = along (two_cuts done group [] h.before h.group h.after h.cut)
   where
     along : AreApart done group h.before h.group → AlsoGroup done group r p
@@ -57,7 +57,7 @@ group_read done group r p h = along (two_cuts done group [] h.before h.group h.a
         absurd (omega arith)
 
 -- what is broken in these records is broken before the next
-within : (done : List (List Entry)) (r p : ℕ) → FailsIn done r p → p < length done + 1
+within : (done : List (List ZoneData)) (r p : ℕ) → FailsIn done r p → p < length done + 1
 within done r p h =
     let long = ap length h.cut in
     let parts = length-append h.before (h.group ∷ h.after) in
@@ -69,7 +69,7 @@ none_held b place list few = record {
   list = subst (AreAllBroken (FailsIn [])) (sym list) (all_none (FailsIn []) (λ r p h. no_cut_of_none h.before h.group h.after h.cut));
 }
 
-pub one_held : (done : List (List Entry)) (group : List Entry) (old new : BrokenGroups) → (old.place ≤ 9999999 → new.place ≡ old.place + 1) → new.list.items ≡ with_broken old.list.items new.place (record_tests group)
+pub one_held : (done : List (List ZoneData)) (group : List ZoneData) (old new : BrokenGroups) → (old.place ≤ 9999999 → new.place ≡ old.place + 1) → new.list.items ≡ with_broken old.list.items new.place (record_tests group)
     → HoldsGroups done old → HoldsGroups (done ++ group ∷ []) new
 one_held done group old new place grown h few =
     let long = length_push done group in
@@ -85,11 +85,11 @@ one_held done group old new place grown h few =
 
 -- ---- all records
 
-all_said : (zones : List Entry) (list : List BrokenRule) → AreAllBroken (FailsIn (groups_of zones)) list → AreAllBroken (BreaksRecordRule zones) list
+all_said : (zones : List ZoneData) (list : List BrokenRule) → AreAllBroken (FailsIn (groups_of zones)) list → AreAllBroken (BreaksRecordRule zones) list
 all_said zones list h = all_same (FailsIn (groups_of zones)) (BreaksRecordRule zones) list
     (λ r p f. record { before = f.before; group = f.group; after = f.after; cut = f.cut; place_is = f.place_is; breaks = rule_said f.group r f.breaks })
     (λ r p f. record { before = f.before; group = f.group; after = f.after; cut = f.cut; place_is = f.place_is; breaks = rule_read f.group r f.breaks })
     h
 
-pub all_records : (zones : List Entry) (b : BrokenGroups) → HoldsGroups (groups_of zones) b → length (groups_of zones) ≤ 9999999 → AreAllBroken (BreaksRecordRule zones) b.list.items
+pub all_records : (zones : List ZoneData) (b : BrokenGroups) → HoldsGroups (groups_of zones) b → length (groups_of zones) ≤ 9999999 → AreAllBroken (BreaksRecordRule zones) b.list.items
 all_records zones b h few = all_said zones b.list.items (h few).list

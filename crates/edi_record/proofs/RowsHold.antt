@@ -1,6 +1,6 @@
 -- Known files against the definitions.
 use Rattle.std.proofs.Common.{◌≡◌, ℕ, Option, Some, None, List, [], ◌∷◌, ◌++◌, map, codes, refl, sym, ap, ◌∙◌, subst, inr, length, arith}
-use Rattle.edi_line.specs.Entry.{Entry}
+use Rattle.edi_line.specs.ZoneData.{ZoneData}
 use Rattle.edi_line.specs.LineRules.{IsZonesOf}
 use Rattle.edi_line.specs.Refusal.{IsUnbroken, IsLeastBroken, BreaksTest}
 use Rattle.edi_line.specs.inner.Refusal.{first_broken}
@@ -52,15 +52,15 @@ empty_pointer_rule = refl
 
 -- ---- a file of one record
 
-in_one : (g group : List Entry) (before after : List (List Entry)) → g ∷ [] ≡ before ++ group ∷ after → (before ≡ []) × (group ≡ g)
+in_one : (g group : List ZoneData) (before after : List (List ZoneData)) → g ∷ [] ≡ before ++ group ∷ after → (before ≡ []) × (group ≡ g)
 in_one g group [] after e = (refl, (let h : g ≡ group = cc in sym h))
 in_one g group (b ∷ []) after e = absurd cc
 in_one g group (b ∷ c ∷ before) after e = absurd cc
 
-one_unbroken : (zones : List Entry) (g : List Entry) → groups_of zones ≡ g ∷ [] → first_broken (record_tests g) ≡ None → IsUnbroken (FailsTest zones)
+one_unbroken : (zones : List ZoneData) (g : List ZoneData) → groups_of zones ≡ g ∷ [] → first_broken (record_tests g) ≡ None → IsUnbroken (FailsTest zones)
 one_unbroken zones g one none rule place h = none_broken (record_tests g) none rule (subst (λ x. BreaksTest (record_tests x) rule) (in_one g h.group h.before h.after (sym one ∙ h.cut)).1 h.breaks)
 
-one_least : (zones : List Entry) (g : List Entry) (rule : ℕ) → groups_of zones ≡ g ∷ [] → first_broken (record_tests g) ≡ Some rule → IsLeastBroken (FailsTest zones) rule 1
+one_least : (zones : List ZoneData) (g : List ZoneData) (rule : ℕ) → groups_of zones ≡ g ∷ [] → first_broken (record_tests g) ≡ Some rule → IsLeastBroken (FailsTest zones) rule 1
 one_least zones g rule one e =
     let found = first_is_least (record_tests g) rule refl e in
     record {
@@ -70,21 +70,21 @@ one_least zones g rule one e =
           inr (omega (arith, h.place_is, ap length here.0), found.least r (subst (λ x. BreaksTest (record_tests x) r) here.1 h.breaks));
     }
 
-abbrev least_rules : List Entry → List (Option ℕ)
+abbrev least_rules : List ZoneData → List (Option ℕ)
 least_rules zones = map (λ group. first_broken (record_tests group)) (groups_of zones)
 
-unbroken_by : (zones : List Entry) → least_rules zones ≡ None ∷ [] → IsUnbroken (BreaksRecordRule zones)
+unbroken_by : (zones : List ZoneData) → least_rules zones ≡ None ∷ [] → IsUnbroken (BreaksRecordRule zones)
 unbroken_by zones e = records_unbroken zones (go (groups_of zones) refl e)
   where
-    go : (gs : List (List Entry)) → groups_of zones ≡ gs → map (λ group. first_broken (record_tests group)) gs ≡ None ∷ [] → IsUnbroken (FailsTest zones)
+    go : (gs : List (List ZoneData)) → groups_of zones ≡ gs → map (λ group. first_broken (record_tests group)) gs ≡ None ∷ [] → IsUnbroken (FailsTest zones)
     go [] q e = absurd cc
     go (g ∷ []) q e = one_unbroken zones g q cc
     go (g ∷ h ∷ gs) q e = absurd cc
 
-least_by : (zones : List Entry) (rule : ℕ) → least_rules zones ≡ Some rule ∷ [] → IsLeastBroken (BreaksRecordRule zones) rule 1
+least_by : (zones : List ZoneData) (rule : ℕ) → least_rules zones ≡ Some rule ∷ [] → IsLeastBroken (BreaksRecordRule zones) rule 1
 least_by zones rule e = record_least zones rule 1 (go (groups_of zones) refl e)
   where
-    go : (gs : List (List Entry)) → groups_of zones ≡ gs → map (λ group. first_broken (record_tests group)) gs ≡ Some rule ∷ [] → IsLeastBroken (FailsTest zones) rule 1
+    go : (gs : List (List ZoneData)) → groups_of zones ≡ gs → map (λ group. first_broken (record_tests group)) gs ≡ Some rule ∷ [] → IsLeastBroken (FailsTest zones) rule 1
     go [] q e = absurd cc
     go (g ∷ []) q e = one_least zones g rule q cc
     go (g ∷ h ∷ gs) q e = absurd cc
@@ -108,14 +108,14 @@ empty_pointer_read : Read (one_node (line (codes "REFCP00:") []))
 unfolding reading_of has_head
 empty_pointer_read = zones_as (one_node (line (codes "REFCP00:") [])) _ refl refl
 
-pub node_file : (zones : List Entry) × IsZonesOf (one_node []) zones × (groups_of zones ≡ node_group ∷ []) × IsUnbroken (BreaksRecordRule zones)
+pub node_file : (zones : List ZoneData) × IsZonesOf (one_node []) zones × (groups_of zones ≡ node_group ∷ []) × IsUnbroken (BreaksRecordRule zones)
 node_file = (zones_of (one_node []), node_read, node_zones, unbroken_by (zones_of (one_node [])) node_unbroken)
 
-pub wrong_count : (zones : List Entry) × IsZonesOf (one_node (line (codes "ATCSN01:1") [])) zones × IsLeastBroken (BreaksRecordRule zones) 205 1
+pub wrong_count : (zones : List ZoneData) × IsZonesOf (one_node (line (codes "ATCSN01:1") [])) zones × IsLeastBroken (BreaksRecordRule zones) 205 1
 wrong_count = (zones_of (one_node (line (codes "ATCSN01:1") [])), wrong_count_read, least_by _ 205 wrong_count_rule)
 
-pub unknown_pointer : (zones : List Entry) × IsZonesOf (one_node (line (codes "REFCP22:EDAB01;SeT1;PNO;Noeud_") [])) zones × IsLeastBroken (BreaksRecordRule zones) 208 1
+pub unknown_pointer : (zones : List ZoneData) × IsZonesOf (one_node (line (codes "REFCP22:EDAB01;SeT1;PNO;Noeud_") [])) zones × IsLeastBroken (BreaksRecordRule zones) 208 1
 unknown_pointer = (zones_of (one_node (line (codes "REFCP22:EDAB01;SeT1;PNO;Noeud_") [])), unknown_pointer_read, least_by _ 208 unknown_pointer_rule)
 
-pub empty_pointer : (zones : List Entry) × IsZonesOf (one_node (line (codes "REFCP00:") [])) zones × IsUnbroken (BreaksRecordRule zones)
+pub empty_pointer : (zones : List ZoneData) × IsZonesOf (one_node (line (codes "REFCP00:") [])) zones × IsUnbroken (BreaksRecordRule zones)
 empty_pointer = (zones_of (one_node (line (codes "REFCP00:") [])), empty_pointer_read, unbroken_by _ empty_pointer_rule)

@@ -6,7 +6,7 @@ use Rattle.std.proofs.lemmas.Bool.{both_ways, and_parts, and_from, or_cases, or_
 use Rattle.std.proofs.lemmas.List.{append_assoc, append-nil}
 use Rattle.std.proofs.lemmas.List.Folds.{Any-from_list_any, list_any-from_Any}
 use Rattle.std.proofs.lemmas.Slice.Eq.{bytes_eq-Decides}
-use Rattle.edi_line.specs.Entry.{Entry, has_code, first}
+use Rattle.edi_line.specs.ZoneData.{ZoneData, has_code, first}
 use Rattle.edi_line.specs.Refusal.{BreaksTest, IsUnbroken, IsLeastBroken}
 use Rattle.edi_record.specs.Records.{values, has_points, is_link, IsSince, opens, closes, points_at, IsExtraAt, States}
 use Rattle.edi_record.specs.RecordRefusal.{IsRecordRefusal}
@@ -64,30 +64,30 @@ no_place_read text n = go (point text) refl
 
 -- ---- kinds
 
-pub kind_said : (g : List Entry) (kind : Kind) → kind_in g ≡ Some kind → IsOfKind g kind
+pub kind_said : (g : List ZoneData) (kind : Kind) → kind_in g ≡ Some kind → IsOfKind g kind
 kind_said g kind e = go (first (values (codes "RTY") g)) refl e
   where
     go : (o : Option (List ℕ)) → first (values (codes "RTY") g) ≡ o → option_and_then kind_named o ≡ Some kind → IsOfKind g kind
     go None q e = absurd cc
     go (Some v) q e = q ∙ ap (λ t. Some t) (code_named v kind e)
 
-pub kind_read : (g : List Entry) (kind : Kind) → IsOfKind g kind → kind_in g ≡ Some kind
+pub kind_read : (g : List ZoneData) (kind : Kind) → IsOfKind g kind → kind_in g ≡ Some kind
 kind_read g kind h = ap (option_and_then kind_named) h ∙ kind_again kind
 
-in_kind_of : (test : Kind → Bool) (g : List Entry) (kind : Kind) → kind_in g ≡ Some kind → in_kind test g ≡ test kind
+in_kind_of : (test : Kind → Bool) (g : List ZoneData) (kind : Kind) → kind_in g ≡ Some kind → in_kind test g ≡ test kind
 in_kind_of test g kind k = rw k refl
 
-in_no_kind : (test : Kind → Bool) (g : List Entry) → kind_in g ≡ None → in_kind test g ≡ false
+in_no_kind : (test : Kind → Bool) (g : List ZoneData) → kind_in g ≡ None → in_kind test g ≡ false
 in_no_kind test g k = rw k refl
 
-in_kind_said : (test : Kind → Bool) (g : List Entry) → in_kind test g ≡ true → (kind : Kind) × IsOfKind g kind × (test kind ≡ true)
+in_kind_said : (test : Kind → Bool) (g : List ZoneData) → in_kind test g ≡ true → (kind : Kind) × IsOfKind g kind × (test kind ≡ true)
 in_kind_said test g e = go (kind_in g) refl
   where
     go : (o : Option Kind) → kind_in g ≡ o → (kind : Kind) × IsOfKind g kind × (test kind ≡ true)
     go None k = let f : false ≡ true = sym (in_no_kind test g k) ∙ e in absurd cc
     go (Some kind) k = (kind, kind_said g kind k, sym (in_kind_of test g kind k) ∙ e)
 
-in_kind_read : (test : Kind → Bool) (g : List Entry) (kind : Kind) → IsOfKind g kind → test kind ≡ true → in_kind test g ≡ true
+in_kind_read : (test : Kind → Bool) (g : List ZoneData) (kind : Kind) → IsOfKind g kind → test kind ≡ true → in_kind test g ≡ true
 in_kind_read test g kind h t = in_kind_of test g kind (kind_read g kind h) ∙ t
 
 node_kind : (kind : Kind) → is_node kind ≡ true → kind ≡ Pno
@@ -111,21 +111,21 @@ link_kind Par e = absurd cc
 link_kind Pfe e = absurd cc
 link_kind Fea e = absurd cc
 
-node_said : (g : List Entry) → in_kind is_node g ≡ true → IsOfKind g Pno
+node_said : (g : List ZoneData) → in_kind is_node g ≡ true → IsOfKind g Pno
 node_said g e = let k = in_kind_said is_node g e in subst (IsOfKind g) (node_kind k.0 k.2) k.1
 
-arc_said : (g : List Entry) → in_kind is_arc g ≡ true → IsOfKind g Par
+arc_said : (g : List ZoneData) → in_kind is_arc g ≡ true → IsOfKind g Par
 arc_said g e = let k = in_kind_said is_arc g e in subst (IsOfKind g) (arc_kind k.0 k.2) k.1
 
-link_said : (g : List Entry) → in_kind is_link g ≡ true → IsOfKind g Lnk
+link_said : (g : List ZoneData) → in_kind is_link g ≡ true → IsOfKind g Lnk
 link_said g e = let k = in_kind_said is_link g e in subst (IsOfKind g) (link_kind k.0 k.2) k.1
 
 -- ---- 201 and 203
 
-said_201 : (g : List Entry) → has_no_kind g ≡ true → LacksKind g
+said_201 : (g : List ZoneData) → has_no_kind g ≡ true → LacksKind g
 said_201 g e kind h = let f : false ≡ true = sym (ap is_none (kind_read g kind h)) ∙ e in absurd cc
 
-read_201 : (g : List Entry) → LacksKind g → has_no_kind g ≡ true
+read_201 : (g : List ZoneData) → LacksKind g → has_no_kind g ≡ true
 read_201 g lacks = go (kind_in g) refl
   where
     go : (o : Option Kind) → kind_in g ≡ o → is_none o ≡ true
@@ -135,12 +135,12 @@ read_201 g lacks = go (kind_in g) refl
 abbrev is_pointer_text : List ℕ → Bool
 is_pointer_text text = is_some (pointer text)
 
-said_203 : (g : List Entry) → has_no_class g ≡ true → LacksClass g
+said_203 : (g : List ZoneData) → has_no_class g ≡ true → LacksClass g
 said_203 g e text one p h =
     let found : has_no_class g ≡ false = ap (λ vs. not (just_one is_pointer_text vs)) one ∙ ap (λ o. not (is_some o)) ((pointer_is text p).1 h) in
     both_ways _ found e
 
-read_203 : (g : List Entry) → LacksClass g → has_no_class g ≡ true
+read_203 : (g : List ZoneData) → LacksClass g → has_no_class g ≡ true
 read_203 g lacks = go (values (codes "SCP") g) refl
   where
     by : (text : List ℕ) → values (codes "SCP") g ≡ text ∷ [] → (o : Option PointerText) → pointer text ≡ o → not (is_some o) ≡ true
@@ -154,22 +154,22 @@ read_203 g lacks = go (values (codes "SCP") g) refl
 
 -- ---- zones, with whether an attribute is open in front of them
 
-module _ (test : Placed → Bool) (T : List Entry → Entry → Type 0) where
-  abbrev Finds : List Entry → Type 0
-  Finds whole = (front : List Entry) × (z : Entry) × (behind : List Entry) × (whole ≡ front ++ z ∷ behind) × T front z
+module _ (test : Placed → Bool) (T : List ZoneData → ZoneData → Type 0) where
+  abbrev Finds : List ZoneData → Type 0
+  Finds whole = (front : List ZoneData) × (z : ZoneData) × (behind : List ZoneData) × (whole ≡ front ++ z ∷ behind) × T front z
 
-  abbrev at_zone : Bool → Entry → Bool
+  abbrev at_zone : Bool → ZoneData → Bool
   at_zone b z = test (record { open_before = b; zone = z })
 
-  any_here : (b : Bool) (z : Entry) (zs : List Entry) → at_zone b z ≡ true → list_any test (placed b (z ∷ zs)) ≡ true
+  any_here : (b : Bool) (z : ZoneData) (zs : List ZoneData) → at_zone b z ≡ true → list_any test (placed b (z ∷ zs)) ≡ true
   unfolding placed
   any_here b z zs e = or_left _ _ e
 
-  any_later : (b : Bool) (z : Entry) (zs : List Entry) → list_any test (placed (is_open_after b z) zs) ≡ true → list_any test (placed b (z ∷ zs)) ≡ true
+  any_later : (b : Bool) (z : ZoneData) (zs : List ZoneData) → list_any test (placed (is_open_after b z) zs) ≡ true → list_any test (placed b (z ∷ zs)) ≡ true
   unfolding placed
   any_later b z zs e = or_right _ _ e
 
-  any_split : (b : Bool) (z : Entry) (zs : List Entry) → list_any test (placed b (z ∷ zs)) ≡ true → (at_zone b z ≡ true) ⊎ (list_any test (placed (is_open_after b z) zs) ≡ true)
+  any_split : (b : Bool) (z : ZoneData) (zs : List ZoneData) → list_any test (placed b (z ∷ zs)) ≡ true → (at_zone b z ≡ true) ⊎ (list_any test (placed (is_open_after b z) zs) ≡ true)
   unfolding placed
   any_split b z zs e = or_cases _ _ e
 
@@ -177,8 +177,8 @@ module _ (test : Placed → Bool) (T : List Entry → Entry → Type 0) where
   unfolding placed
   any_none b e = let f : false ≡ true = e in cc
 
-  placed_said : ((b : Bool) (front : List Entry) (z : Entry) → SaysOpen b front → at_zone b z ≡ true → T front z)
-      → (whole : List Entry) (b : Bool) (front zs : List Entry) → whole ≡ front ++ zs → SaysOpen b front → list_any test (placed b zs) ≡ true → Finds whole
+  placed_said : ((b : Bool) (front : List ZoneData) (z : ZoneData) → SaysOpen b front → at_zone b z ≡ true → T front z)
+      → (whole : List ZoneData) (b : Bool) (front zs : List ZoneData) → whole ≡ front ++ zs → SaysOpen b front → list_any test (placed b zs) ≡ true → Finds whole
   placed_said to whole b front [] cut says e = absurd (any_none b e)
   placed_said to whole b front (z ∷ zs) cut says e =
       go (λ h. placed_said to whole (is_open_after b z) (front ++ z ∷ []) zs (cut ∙ sym (append_assoc front (z ∷ []) zs)) (open_more b front z says) h) (any_split b z zs e)
@@ -187,8 +187,8 @@ module _ (test : Placed → Bool) (T : List Entry → Entry → Type 0) where
       go more (inl h) = (front, z, zs, cut, to b front z says h)
       go more (inr h) = more h
 
-  placed_read : ((b : Bool) (front : List Entry) (z : Entry) → SaysOpen b front → T front z → at_zone b z ≡ true)
-      → (b : Bool) (front before : List Entry) (z : Entry) (behind : List Entry) → SaysOpen b front → T (front ++ before) z → list_any test (placed b (before ++ z ∷ behind)) ≡ true
+  placed_read : ((b : Bool) (front : List ZoneData) (z : ZoneData) → SaysOpen b front → T front z → at_zone b z ≡ true)
+      → (b : Bool) (front before : List ZoneData) (z : ZoneData) (behind : List ZoneData) → SaysOpen b front → T (front ++ before) z → list_any test (placed b (before ++ z ∷ behind)) ≡ true
   placed_read from b front [] z behind says t = any_here b z behind (from b front z says (subst (λ f. T f z) (append-nil front) t))
   placed_read from b front (x ∷ before) z behind says t =
       any_later b x (before ++ z ∷ behind)
@@ -196,14 +196,14 @@ module _ (test : Placed → Bool) (T : List Entry → Entry → Type 0) where
 
 -- ---- a code that comes twice in one stretch
 
-abbrev InStretch : (Entry → Bool) → List ℕ → List Entry → Type 0
-InStretch ends code zs = (since : List Entry) × (z : Entry) × (behind : List Entry) × (zs ≡ since ++ z ∷ behind) × (has_code code z ≡ true) × (list_any ends since ≡ false)
+abbrev InStretch : (ZoneData → Bool) → List ℕ → List ZoneData → Type 0
+InStretch ends code zs = (since : List ZoneData) × (z : ZoneData) × (behind : List ZoneData) × (zs ≡ since ++ z ∷ behind) × (has_code code z ≡ true) × (list_any ends since ≡ false)
 
-abbrev TwiceIn : (Entry → Bool) → List ℕ → List Entry → Type 0
+abbrev TwiceIn : (ZoneData → Bool) → List ℕ → List ZoneData → Type 0
 TwiceIn ends code zs =
-    (since : List Entry) × (z : Entry) × (behind : List Entry) × (zs ≡ since ++ z ∷ behind) × (has_code code z ≡ true) × (list_any ends since ≡ false) × (list_any (has_code code) since ≡ true)
+    (since : List ZoneData) × (z : ZoneData) × (behind : List ZoneData) × (zs ≡ since ++ z ∷ behind) × (has_code code z ≡ true) × (list_any ends since ≡ false) × (list_any (has_code code) since ≡ true)
 
-one_in : (ends : Entry → Bool) (code : List ℕ) (zs : List Entry) → 1 ≤ count_until ends code zs → InStretch ends code zs
+one_in : (ends : ZoneData → Bool) (code : List ℕ) (zs : List ZoneData) → 1 ≤ count_until ends code zs → InStretch ends code zs
 one_in ends code [] some = absurd (omega (arith, some))
 one_in ends code (x ∷ zs) some = go (ends x) refl (has_code code x) refl some (λ h. one_in ends code zs h)
   where
@@ -213,7 +213,7 @@ one_in ends code (x ∷ zs) some = go (ends x) refl (has_code code x) refl some 
     go false p true q some more = ([], x, zs, refl, q, refl)
     go false p false q some more = let h = more some in (x ∷ h.0, h.1, h.2, ap (λ l. x ∷ l) h.3, h.4, rw (p, h.5) refl)
 
-two_in : (ends : Entry → Bool) (code : List ℕ) (zs : List Entry) → 2 ≤ count_until ends code zs → TwiceIn ends code zs
+two_in : (ends : ZoneData → Bool) (code : List ℕ) (zs : List ZoneData) → 2 ≤ count_until ends code zs → TwiceIn ends code zs
 two_in ends code [] some = absurd (omega (arith, some))
 two_in ends code (x ∷ zs) some = go (ends x) refl (has_code code x) refl some (λ h. two_in ends code zs h)
   where
@@ -223,7 +223,7 @@ two_in ends code (x ∷ zs) some = go (ends x) refl (has_code code x) refl some 
     go false p true q some more = let h = one_in ends code zs (omega (arith, some)) in (x ∷ h.0, h.1, h.2, ap (λ l. x ∷ l) h.3, h.4, rw (p, h.5) refl, or_left _ _ q)
     go false p false q some more = let h = more some in (x ∷ h.0, h.1, h.2, ap (λ l. x ∷ l) h.3, h.4, rw (p, h.5) refl, or_right _ _ h.6)
 
-count_one : (ends : Entry → Bool) (code : List ℕ) (since : List Entry) (z : Entry) (behind : List Entry) → list_any ends since ≡ false → has_code code z ≡ true → ends z ≡ false
+count_one : (ends : ZoneData → Bool) (code : List ℕ) (since : List ZoneData) (z : ZoneData) (behind : List ZoneData) → list_any ends since ≡ false → has_code code z ≡ true → ends z ≡ false
     → 1 ≤ count_until ends code (since ++ z ∷ behind)
 count_one ends code [] z behind none is apart = rw (apart, is) (omega arith)
 count_one ends code (x ∷ since) z behind none is apart = go (ends x) refl (has_code code x) refl (list_any ends since) refl none (λ h. count_one ends code since z behind h is apart)
@@ -236,7 +236,7 @@ count_one ends code (x ∷ since) z behind none is apart = go (ends x) refl (has
     go false p true q o r none more = omega arith
     go false p false q o r none more = more (r ∙ none)
 
-count_two : (ends : Entry → Bool) (code : List ℕ) (since : List Entry) (z : Entry) (behind : List Entry) → list_any ends since ≡ false → list_any (has_code code) since ≡ true → has_code code z ≡ true → ends z ≡ false
+count_two : (ends : ZoneData → Bool) (code : List ℕ) (since : List ZoneData) (z : ZoneData) (behind : List ZoneData) → list_any ends since ≡ false → list_any (has_code code) since ≡ true → has_code code z ≡ true → ends z ≡ false
     → 2 ≤ count_until ends code (since ++ z ∷ behind)
 count_two ends code [] z behind none some is apart = let f : false ≡ true = some in absurd cc
 count_two ends code (x ∷ since) z behind none some is apart =
@@ -253,11 +253,11 @@ count_two ends code (x ∷ since) z behind none some is apart =
     go false p false q o r none some one two = two (r ∙ none) some
 
 -- where the code comes twice behind one zone that begins a stretch
-abbrev ComesTwice : (Entry → Bool) → (Entry → Bool) → List ℕ → List Entry → Type 0
+abbrev ComesTwice : (ZoneData → Bool) → (ZoneData → Bool) → List ℕ → List ZoneData → Type 0
 ComesTwice begins ends code whole =
-    (front since : List Entry) × (z : Entry) × (behind : List Entry) × (whole ≡ front ++ z ∷ behind) × (has_code code z ≡ true) × IsSince begins ends front since × (list_any (has_code code) since ≡ true)
+    (front since : List ZoneData) × (z : ZoneData) × (behind : List ZoneData) × (whole ≡ front ++ z ∷ behind) × (has_code code z ≡ true) × IsSince begins ends front since × (list_any (has_code code) since ≡ true)
 
-repeats_said : (begins ends : Entry → Bool) (code : List ℕ) (whole before zs : List Entry) → whole ≡ before ++ zs → repeats begins ends code zs ≡ true → ComesTwice begins ends code whole
+repeats_said : (begins ends : ZoneData → Bool) (code : List ℕ) (whole before zs : List ZoneData) → whole ≡ before ++ zs → repeats begins ends code zs ≡ true → ComesTwice begins ends code whole
 repeats_said begins ends code whole before [] cut e = let f : false ≡ true = e in absurd cc
 repeats_said begins ends code whole before (x ∷ zs) cut e =
     go (or_cases _ _ e) (λ h. repeats_said begins ends code whole (before ++ x ∷ []) zs (cut ∙ sym (append_assoc before (x ∷ []) zs)) h)
@@ -278,13 +278,13 @@ repeats_said begins ends code whole before (x ∷ zs) cut e =
         )
     go (inr h) more = more h
 
-repeats_read : (begins ends : Entry → Bool) (code : List ℕ) (before : List Entry) (head : Entry) (since : List Entry) (z : Entry) (behind : List Entry)
+repeats_read : (begins ends : ZoneData → Bool) (code : List ℕ) (before : List ZoneData) (head : ZoneData) (since : List ZoneData) (z : ZoneData) (behind : List ZoneData)
     → begins head ≡ true → list_any ends since ≡ false → list_any (has_code code) since ≡ true → has_code code z ≡ true → ends z ≡ false → repeats begins ends code (before ++ head ∷ (since ++ z ∷ behind)) ≡ true
 repeats_read begins ends code [] head since z behind b none some is apart =
     or_left _ _ (and_from _ _ b (le-leb 2 (count_until ends code (since ++ z ∷ behind)) (count_two ends code since z behind none some is apart)))
 repeats_read begins ends code (x ∷ before) head since z behind b none some is apart = or_right _ _ (repeats_read begins ends code before head since z behind b none some is apart)
 
-twice_read : (begins ends : Entry → Bool) (code : List ℕ) (whole front since : List Entry) (z : Entry) (behind : List Entry) → whole ≡ front ++ z ∷ behind → has_code code z ≡ true → ends z ≡ false
+twice_read : (begins ends : ZoneData → Bool) (code : List ℕ) (whole front since : List ZoneData) (z : ZoneData) (behind : List ZoneData) → whole ≡ front ++ z ∷ behind → has_code code z ≡ true → ends z ≡ false
     → IsSince begins ends front since → list_any (has_code code) since ≡ true → repeats begins ends code whole ≡ true
 twice_read begins ends code whole front since z behind cut is apart s some =
     ap (repeats begins ends code) (cut ∙ ap (λ l. l ++ z ∷ behind) s.cut ∙ append_assoc s.before (s.head ∷ since) (z ∷ behind))
@@ -293,22 +293,22 @@ twice_read begins ends code whole front since z behind cut is apart s some =
 -- ---- 204
 
 -- a zone has one code
-code_apart : (a b : List ℕ) (z : Entry) → bytes_eq a b ≡ false → has_code a z ≡ true → has_code b z ≡ false
+code_apart : (a b : List ℕ) (z : ZoneData) → bytes_eq a b ≡ false → has_code a z ≡ true → has_code b z ≡ false
 code_apart a b z apart is = ap (λ c. bytes_eq c b) ((bytes_eq-Decides z.code a).0 is) ∙ apart
 
 abbrev is_stray_value : Placed → Bool
 is_stray_value p = closes p.zone && not p.open_before
 
-abbrev StrayValue : List Entry → Entry → Type 0
+abbrev StrayValue : List ZoneData → ZoneData → Type 0
 StrayValue front z = (closes z ≡ true) × ¬ (Open front)
 
-stray_said : (b : Bool) (front : List Entry) (z : Entry) → SaysOpen b front → (closes z && not b) ≡ true → StrayValue front z
+stray_said : (b : Bool) (front : List ZoneData) (z : ZoneData) → SaysOpen b front → (closes z && not b) ≡ true → StrayValue front z
 stray_said b front z says e = let p = and_parts _ _ e in (p.0, λ h. both_ways _ (not-true _ p.1) (says.1 h))
 
-stray_read : (b : Bool) (front : List Entry) (z : Entry) → SaysOpen b front → StrayValue front z → (closes z && not b) ≡ true
+stray_read : (b : Bool) (front : List ZoneData) (z : ZoneData) → SaysOpen b front → StrayValue front z → (closes z && not b) ≡ true
 stray_read b front z says h = and_from _ _ h.0 (ap not (false_from_ne_true b (λ e. h.1 (says.0 e))))
 
-said_204 : (g : List Entry) → has_bad_attribute g ≡ true → HasBadAttribute g
+said_204 : (g : List ZoneData) → has_bad_attribute g ≡ true → HasBadAttribute g
 said_204 g e = go (or_cases _ _ e)
   where
     behind_first : (list_any is_stray_value (placed false g) ≡ true) ⊎ (repeats opens (λ z. opens z || closes z) (codes "TEX") g ≡ true) → HasBadAttribute g
@@ -323,7 +323,7 @@ said_204 g e = go (or_cases _ _ e)
     go (inl h) = no_class_pointer (any_said (λ text. is_none (pointer text)) IsNoPointer no_pointer_said (values (codes "ATP") g) h)
     go (inr h) = behind_first (or_cases _ _ h)
 
-read_204 : (g : List Entry) → HasBadAttribute g → has_bad_attribute g ≡ true
+read_204 : (g : List ZoneData) → HasBadAttribute g → has_bad_attribute g ≡ true
 read_204 g (no_class_pointer h) = or_left _ _ (any_read (λ text. is_none (pointer text)) IsNoPointer no_pointer_read (values (codes "ATP") g) h)
 read_204 g (stray_value front z at is none) =
     or_right _ _ (or_left _ _ (ap (λ l. list_any is_stray_value (placed false l)) at.1
@@ -334,13 +334,13 @@ read_204 g (second_set front since z at is opened some) =
 
 -- ---- 205
 
-wrong_said : (g : List Entry) (a b : List ℕ) → counts_wrong a b g ≡ true → CountsWrong g a b
+wrong_said : (g : List ZoneData) (a b : List ℕ) → counts_wrong a b g ≡ true → CountsWrong g a b
 wrong_said g a b e h = both_ways _ (ap not (right_read (values a g) (length (values b g)) h)) e
 
-wrong_read : (g : List Entry) (a b : List ℕ) → CountsWrong g a b → counts_wrong a b g ≡ true
+wrong_read : (g : List ZoneData) (a b : List ℕ) → CountsWrong g a b → counts_wrong a b g ≡ true
 wrong_read g a b w = ap not (false_from_ne_true _ (λ e. w (right_said (values a g) (length (values b g)) e)))
 
-said_205 : (g : List Entry) → has_wrong_count g ≡ true → HasWrongCount g
+said_205 : (g : List ZoneData) → has_wrong_count g ≡ true → HasWrongCount g
 said_205 g e = go (or_cases _ _ e)
   where
     behind_first : ((in_kind is_arc g && counts_wrong (codes "PTC") (codes "COR") g) ≡ true) ⊎ ((in_kind is_link g && counts_wrong (codes "FTC") (codes "FTP") g) ≡ true) → HasWrongCount g
@@ -352,14 +352,14 @@ said_205 g e = go (or_cases _ _ e)
     go (inl h) = of_attributes (wrong_said g (codes "ATC") (codes "ATP") h)
     go (inr h) = behind_first (or_cases _ _ h)
 
-read_205 : (g : List Entry) → HasWrongCount g → has_wrong_count g ≡ true
+read_205 : (g : List ZoneData) → HasWrongCount g → has_wrong_count g ≡ true
 read_205 g (of_attributes h) = or_left _ _ (wrong_read g (codes "ATC") (codes "ATP") h)
 read_205 g (of_points k h) = or_right _ _ (or_left _ _ (and_from _ _ (in_kind_read is_arc g Par k refl) (wrong_read g (codes "PTC") (codes "COR") h)))
 read_205 g (of_ends k h) = or_right _ _ (or_right _ _ (and_from _ _ (in_kind_read is_link g Lnk k refl) (wrong_read g (codes "FTC") (codes "FTP") h)))
 
 -- ---- 206
 
-said_206 : (g : List Entry) → has_bad_point g ≡ true → HasBadPoint g
+said_206 : (g : List ZoneData) → has_bad_point g ≡ true → HasBadPoint g
 said_206 g e = go (or_cases _ _ e)
   where
     behind_first : ((in_kind is_node g && not (eqb (length (values (codes "COR") g)) 1)) ≡ true) ⊎ ((in_kind is_arc g && ltb (length (values (codes "COR") g)) 2) ≡ true) → HasBadPoint g
@@ -374,7 +374,7 @@ said_206 g e = go (or_cases _ _ e)
         no_position k.0 k.1 k.2 (any_said (λ text. is_none (point text)) (λ text. (p : Point) → ¬ (IsPosition text p)) no_place_said (values (codes "COR") g) p.1)
     go (inr h) = behind_first (or_cases _ _ h)
 
-read_206 : (g : List Entry) → HasBadPoint g → has_bad_point g ≡ true
+read_206 : (g : List ZoneData) → HasBadPoint g → has_bad_point g ≡ true
 read_206 g (no_position kind k has h) =
     or_left _ _ (and_from _ _ (in_kind_read has_points g kind k has) (any_read (λ text. is_none (point text)) (λ text. (p : Point) → ¬ (IsPosition text p)) no_place_read (values (codes "COR") g) h))
 read_206 g (of_node k other) =
@@ -383,10 +383,10 @@ read_206 g (of_arc k few) = or_right _ _ (or_right _ _ (and_from _ _ (in_kind_re
 
 -- ---- 207
 
-abbrev FindsFirst : (Entry → Bool) → (Entry → Bool) → List Entry → Type 0
-FindsFirst p q zs = (front : List Entry) × (z : Entry) × (behind : List Entry) × (zs ≡ front ++ z ∷ behind) × (p z ≡ true) × (list_any q front ≡ false)
+abbrev FindsFirst : (ZoneData → Bool) → (ZoneData → Bool) → List ZoneData → Type 0
+FindsFirst p q zs = (front : List ZoneData) × (z : ZoneData) × (behind : List ZoneData) × (zs ≡ front ++ z ∷ behind) × (p z ≡ true) × (list_any q front ≡ false)
 
-first_said : (p q : Entry → Bool) (zs : List Entry) → list_any p (before_first q zs) ≡ true → FindsFirst p q zs
+first_said : (p q : ZoneData → Bool) (zs : List ZoneData) → list_any p (before_first q zs) ≡ true → FindsFirst p q zs
 first_said p q [] e = let f : false ≡ true = e in absurd cc
 first_said p q (x ∷ zs) e = go (q x) refl (λ h. first_said p q zs h)
   where
@@ -398,7 +398,7 @@ first_said p q (x ∷ zs) e = go (q x) refl (λ h. first_said p q zs h)
     go true t more = let f : false ≡ true = sym (ap (list_any p) (before_yes q x zs t)) ∙ e in absurd cc
     go false t more = along (or_cases _ _ (sym (ap (list_any p) (before_no q x zs t)) ∙ e)) t more
 
-first_read : (p q : Entry → Bool) (front : List Entry) (z : Entry) (behind : List Entry) → p z ≡ true → q z ≡ false → list_any q front ≡ false → list_any p (before_first q (front ++ z ∷ behind)) ≡ true
+first_read : (p q : ZoneData → Bool) (front : List ZoneData) (z : ZoneData) (behind : List ZoneData) → p z ≡ true → q z ≡ false → list_any q front ≡ false → list_any p (before_first q (front ++ z ∷ behind)) ≡ true
 first_read p q [] z behind is apart none = ap (list_any p) (before_no q z behind apart) ∙ or_left _ _ is
 first_read p q (x ∷ front) z behind is apart none = go (q x) refl (list_any q front) refl none (λ h. first_read p q front z behind is apart h)
   where
@@ -407,13 +407,13 @@ first_read p q (x ∷ front) z behind is apart none = go (q x) refl (list_any q 
     go true s b t none more = absurd cc
     go false s b t none more = ap (list_any p) (before_no q x (front ++ z ∷ behind) s) ∙ or_right _ _ (more (t ∙ none))
 
-abbrev bad_ends : List Entry → Bool
+abbrev bad_ends : List ZoneData → Bool
 bad_ends g = some_no_pointer (values (codes "FTP") g)
     || (ltb (length (values (codes "FTP") g)) 2
     || (list_any (has_code (codes "SNS")) (before_first points_at g)
     || repeats points_at points_at (codes "SNS") g))
 
-said_207 : (g : List Entry) → bad_ends g ≡ true → HasBadEnd g
+said_207 : (g : List ZoneData) → bad_ends g ≡ true → HasBadEnd g
 said_207 g e = go (or_cases _ _ e)
   where
     third : (list_any (has_code (codes "SNS")) (before_first points_at g) ≡ true) ⊎ (repeats points_at points_at (codes "SNS") g ≡ true) → HasBadEnd g
@@ -429,7 +429,7 @@ said_207 g e = go (or_cases _ _ e)
     go (inl h) = no_end_pointer (any_said (λ text. is_none (pointer text)) IsNoPointer no_pointer_said (values (codes "FTP") g) h)
     go (inr h) = second (or_cases _ _ h)
 
-read_207 : (g : List Entry) → HasBadEnd g → bad_ends g ≡ true
+read_207 : (g : List ZoneData) → HasBadEnd g → bad_ends g ≡ true
 read_207 g (no_end_pointer h) = or_left _ _ (any_read (λ text. is_none (pointer text)) IsNoPointer no_pointer_read (values (codes "FTP") g) h)
 read_207 g (few_ends h) = or_right _ _ (or_left _ _ (lt-ltb (length (values (codes "FTP") g)) 2 h))
 read_207 g (stray_sense front z at is none) =
@@ -440,7 +440,7 @@ read_207 g (second_sense front since z at is s some) =
 
 -- ---- 208
 
-abbrev UnknownPointer : Kind → List Entry → Entry → Type 0
+abbrev UnknownPointer : Kind → List ZoneData → ZoneData → Type 0
 UnknownPointer kind front z = IsExtraAt kind front z × (z.format ≡ 80) × (z.value ≢ [])
 
 some_value : (v : List ℕ) → ltb 0 (length v) ≡ true → v ≢ []
@@ -450,22 +450,22 @@ value_some : (v : List ℕ) → v ≢ [] → ltb 0 (length v) ≡ true
 value_some [] other = absurd (other refl)
 value_some (x ∷ v) other = lt-ltb 0 (length (x ∷ v)) (omega arith)
 
-unknown_said : (kind : Kind) (b : Bool) (front : List Entry) (z : Entry) → SaysOpen b front → is_unknown_pointer kind (record { open_before = b; zone = z }) ≡ true → UnknownPointer kind front z
+unknown_said : (kind : Kind) (b : Bool) (front : List ZoneData) (z : ZoneData) → SaysOpen b front → is_unknown_pointer kind (record { open_before = b; zone = z }) ≡ true → UnknownPointer kind front z
 unknown_said kind b front z says e =
     let p = and_parts _ _ e in
     let q = and_parts _ _ p.1 in
     (extra_test kind b front z says p.0, eqb-true z.format 80 q.0, some_value z.value q.1)
 
-unknown_read : (kind : Kind) (b : Bool) (front : List Entry) (z : Entry) → SaysOpen b front → UnknownPointer kind front z → is_unknown_pointer kind (record { open_before = b; zone = z }) ≡ true
+unknown_read : (kind : Kind) (b : Bool) (front : List ZoneData) (z : ZoneData) → SaysOpen b front → UnknownPointer kind front z → is_unknown_pointer kind (record { open_before = b; zone = z }) ≡ true
 unknown_read kind b front z says h = and_from _ _ (test_extra kind b front z says h.0) (and_from _ _ (eq-eqb z.format 80 h.1) (value_some z.value h.2))
 
-said_208 : (g : List Entry) → has_unknown_pointer g ≡ true → HasUnknownPointer g
+said_208 : (g : List ZoneData) → has_unknown_pointer g ≡ true → HasUnknownPointer g
 said_208 g e =
     let k = in_kind_said (λ kind. list_any (is_unknown_pointer kind) (placed false g)) g e in
     let f = placed_said (is_unknown_pointer k.0) (UnknownPointer k.0) (unknown_said k.0) g false [] g refl open_none k.2 in
     record { kind = k.0; is_kind = k.1; front = f.0; zone = f.1; is_in = (f.2, f.3); extra = f.4.0; format = f.4.1; some = f.4.2 }
 
-read_208 : (g : List Entry) → HasUnknownPointer g → has_unknown_pointer g ≡ true
+read_208 : (g : List ZoneData) → HasUnknownPointer g → has_unknown_pointer g ≡ true
 read_208 g h =
     in_kind_read (λ kind. list_any (is_unknown_pointer kind) (placed false g)) g h.kind h.is_kind
     (ap (λ l. list_any (is_unknown_pointer h.kind) (placed false l)) h.is_in.1
@@ -473,7 +473,7 @@ read_208 g h =
 
 -- ---- all rules of a group
 
-pub rule_said : (g : List Entry) (rule : ℕ) → BreaksTest (record_tests g) rule → BreaksGroupRule g rule
+pub rule_said : (g : List ZoneData) (rule : ℕ) → BreaksTest (record_tests g) rule → BreaksGroupRule g rule
 rule_said g rule (inl h) = lacks_kind (sym h.0) (said_201 g h.1)
 rule_said g rule (inr (inl h)) = lacks_identifier (sym h.0) h.1
 rule_said g rule (inr (inr (inl h))) = lacks_class (sym h.0) (said_203 g h.1)
@@ -484,7 +484,7 @@ rule_said g rule (inr (inr (inr (inr (inr (inr (inl h))))))) = let p = and_parts
 rule_said g rule (inr (inr (inr (inr (inr (inr (inr (inl h)))))))) = unknown_pointer (sym h.0) (said_208 g h.1)
 rule_said g rule (inr (inr (inr (inr (inr (inr (inr (inr h)))))))) = absurd h
 
-pub rule_read : (g : List Entry) (rule : ℕ) → BreaksGroupRule g rule → BreaksTest (record_tests g) rule
+pub rule_read : (g : List ZoneData) (rule : ℕ) → BreaksGroupRule g rule → BreaksTest (record_tests g) rule
 rule_read g rule (lacks_kind e h) = inl (sym e, read_201 g h)
 rule_read g rule (lacks_identifier e h) = inr (inl (sym e, h))
 rule_read g rule (lacks_class e h) = inr (inr (inl (sym e, read_203 g h)))
@@ -496,32 +496,32 @@ rule_read g rule (unknown_pointer e h) = inr (inr (inr (inr (inr (inr (inr (inl 
 
 -- ---- the rules of a file
 
-pub record_rule_said : (zones : List Entry) (rule place : ℕ) → FailsTest zones rule place → BreaksRecordRule zones rule place
+pub record_rule_said : (zones : List ZoneData) (rule place : ℕ) → FailsTest zones rule place → BreaksRecordRule zones rule place
 record_rule_said zones rule place h = record { before = h.before; group = h.group; after = h.after; cut = h.cut; place_is = h.place_is; breaks = rule_said h.group rule h.breaks }
 
-pub record_rule_read : (zones : List Entry) (rule place : ℕ) → BreaksRecordRule zones rule place → FailsTest zones rule place
+pub record_rule_read : (zones : List ZoneData) (rule place : ℕ) → BreaksRecordRule zones rule place → FailsTest zones rule place
 record_rule_read zones rule place h = record { before = h.before; group = h.group; after = h.after; cut = h.cut; place_is = h.place_is; breaks = rule_read h.group rule h.breaks }
 
-pub records_unbroken : (zones : List Entry) → IsUnbroken (FailsTest zones) → IsUnbroken (BreaksRecordRule zones)
+pub records_unbroken : (zones : List ZoneData) → IsUnbroken (FailsTest zones) → IsUnbroken (BreaksRecordRule zones)
 records_unbroken zones h rule place broken = h rule place (record_rule_read zones rule place broken)
 
-pub records_pass : (zones : List Entry) → IsUnbroken (BreaksRecordRule zones) → IsUnbroken (FailsTest zones)
+pub records_pass : (zones : List ZoneData) → IsUnbroken (BreaksRecordRule zones) → IsUnbroken (FailsTest zones)
 records_pass zones h rule place broken = h rule place (record_rule_said zones rule place broken)
 
-pub record_least : (zones : List Entry) (rule place : ℕ) → IsLeastBroken (FailsTest zones) rule place → IsLeastBroken (BreaksRecordRule zones) rule place
+pub record_least : (zones : List ZoneData) (rule place : ℕ) → IsLeastBroken (FailsTest zones) rule place → IsLeastBroken (BreaksRecordRule zones) rule place
 record_least zones rule place h = record { is = record_rule_said zones rule place h.is; least = λ r p broken. h.least r p (record_rule_read zones r p broken) }
 
-pub refusal_said : (zones : List Entry) (f : RecordFault) → IsRecordRefusal (FailsTest zones) f → IsRecordRefusal (BreaksRecordRule zones) f
+pub refusal_said : (zones : List ZoneData) (f : RecordFault) → IsRecordRefusal (FailsTest zones) f → IsRecordRefusal (BreaksRecordRule zones) f
 refusal_said zones (fault.Memory e) h = tt
 refusal_said zones (fault.Broken rule at) h = record_least zones rule at h
 
 -- ---- what a group that states a record can't break
 
-pub stated_kind : (g : List Entry) (r : Record) → States g r → ¬ (LacksKind g)
+pub stated_kind : (g : List ZoneData) (r : Record) → States g r → ¬ (LacksKind g)
 stated_kind g r h lacks = both_ways _ (has_kind g r (states_read g r h)) (read_201 g lacks)
 
-pub stated_identifier : (g : List Entry) (r : Record) → States g r → is_identifier r.rid ≡ true → has_no_identifier g ≡ false
+pub stated_identifier : (g : List ZoneData) (r : Record) → States g r → is_identifier r.rid ≡ true → has_no_identifier g ≡ false
 stated_identifier g r h good = has_identifier g r (states_read g r h) good
 
-pub stated_class : (g : List Entry) (r : Record) → States g r → ¬ (LacksClass g)
+pub stated_class : (g : List ZoneData) (r : Record) → States g r → ¬ (LacksClass g)
 stated_class g r h lacks = both_ways _ (has_class g r (states_read g r h)) (read_203 g lacks)

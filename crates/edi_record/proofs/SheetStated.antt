@@ -2,7 +2,7 @@
 use Rattle.std.proofs.Common.{◌≡◌, ℕ, ◌+◌, true, false, List, [], ◌∷◌, ◌++◌, map, length, filter, flat_map, Option, Some, None, option_map, option_to_list, codes, bytes_eq, refl, sym, ap, ◌∙◌, subst, append_assoc}
 use Rattle.std.specs.List.{AllByRecursion, AllZip}
 use Rattle.std.proofs.lemmas.Bool.{not-true, or_from}
-use Rattle.edi_line.specs.Entry.{Entry, has_code, first}
+use Rattle.edi_line.specs.ZoneData.{ZoneData, has_code, first}
 use Rattle.edi_line.specs.Zones.{ends_group, groups_of, charset_of}
 use Rattle.edi_line.proofs.ZonesFound.{zones_of, zones_in}
 use Rattle.edi_line.specs.Printing.{zone_text, line_numbered, IsPrintable, lines_of_zone}
@@ -71,12 +71,12 @@ no_sets s (r ∷ rs) h =
     subst (AllByRecursion (λ z. has_code (codes "CSE") z ≡ false)) (sym (append_assoc (zones_of_record s r) (flat_map (zones_of_record s) rs) (end_zone ∷ [])))
     (joined (λ z. has_code (codes "CSE") z ≡ false) (zones_of_record s r) (flat_map (zones_of_record s) rs ++ end_zone ∷ []) (no_set s r h.0) (no_sets s rs h.1))
 
-first_value : (xs : List Entry) → option_map (λ (e : Entry). e.value) (first xs) ≡ first (map (λ (e : Entry). e.value) xs)
+first_value : (xs : List ZoneData) → option_map (λ (e : ZoneData). e.value) (first xs) ≡ first (map (λ (e : ZoneData). e.value) xs)
 first_value [] = refl
 first_value (x ∷ xs) = refl
 
-set_found : (cse : Option (List ℕ)) (zs : List Entry) → AllByRecursion (λ z. has_code (codes "CSE") z ≡ false) zs → first (values (codes "CSE") (begin_zone ∷ (map cse_zone (option_to_list cse) ++ zs))) ≡ cse
-set_found None zs h = ap (λ t. first (map (λ (e : Entry). e.value) t)) (none_found (has_code (codes "CSE")) zs h)
+set_found : (cse : Option (List ℕ)) (zs : List ZoneData) → AllByRecursion (λ z. has_code (codes "CSE") z ≡ false) zs → first (values (codes "CSE") (begin_zone ∷ (map cse_zone (option_to_list cse) ++ zs))) ≡ cse
+set_found None zs h = ap (λ t. first (map (λ (e : ZoneData). e.value) t)) (none_found (has_code (codes "CSE")) zs h)
 set_found (Some text) zs h = refl
 
 -- each record states what it is settled as, and is cut off well
@@ -84,16 +84,16 @@ each_stated : (s : Letters) (rs : List Record) → AllByRecursion IsRecord rs �
 each_stated s [] h = tt
 each_stated s (r ∷ rs) h = ((record_cut s r h.0, record_again s r h.0), each_stated s rs h.1)
 
-behind_set : (cse : Option (List ℕ)) (n : ℕ) (zs : List Entry) (rs : List Record) → ((m : ℕ) → AllZip ReadsAs (groups_of (line_numbered m zs)) rs) → AllZip ReadsAs (groups_of (line_numbered n (map cse_zone (option_to_list cse) ++ zs))) rs
+behind_set : (cse : Option (List ℕ)) (n : ℕ) (zs : List ZoneData) (rs : List Record) → ((m : ℕ) → AllZip ReadsAs (groups_of (line_numbered m zs)) rs) → AllZip ReadsAs (groups_of (line_numbered n (map cse_zone (option_to_list cse) ++ zs))) rs
 behind_set None n zs rs more = more n
 behind_set (Some text) n zs rs more = more (n + length (lines_of_zone (cse_zone text)))
 
 pub sheet_again : (s : Letters) (cse : Option (List ℕ)) (rs : List Record) → AllByRecursion IsPrintable (zones_of_sheet s cse rs) → AllByRecursion IsRecord rs
-    → (option_map (λ (e : Entry). e.value) (charset_of (zones_of (records_layout s cse rs))) ≡ cse) × AllZip ReadsAs (groups_of (zones_of (records_layout s cse rs))) (map (settled_record s) rs)
+    → (option_map (λ (e : ZoneData). e.value) (charset_of (zones_of (records_layout s cse rs))) ≡ cse) × AllZip ReadsAs (groups_of (zones_of (records_layout s cse rs))) (map (settled_record s) rs)
 sheet_again s cse rs p h =
     let body = flat_map (zones_of_record s) rs ++ end_zone ∷ [] in
     let zones = printed_again (zones_of_sheet s cse rs) p in (
-      ap (λ zs. option_map (λ (e : Entry). e.value) (charset_of zs)) zones
+      ap (λ zs. option_map (λ (e : ZoneData). e.value) (charset_of zs)) zones
           ∙ first_value (filter (has_code (codes "CSE")) (line_numbered 1 (zones_of_sheet s cse rs)))
           ∙ ap first (same_values (codes "CSE") 1 (zones_of_sheet s cse rs))
           ∙ set_found cse body (no_sets s rs h),
@@ -107,6 +107,6 @@ pub sheet_stated : LayoutIsReadAgain
 sheet_stated s cse rs readings zones p h say are =
     let same : zones ≡ zones_of (records_layout s cse rs) = zones_are readings zones are ∙ ap zones_in (readings_are (records_layout s cse rs) readings say) in
     let again = sheet_again s cse rs p h in (
-      ap (λ zs. option_map (λ (e : Entry). e.value) (charset_of zs)) same ∙ again.0,
+      ap (λ zs. option_map (λ (e : ZoneData). e.value) (charset_of zs)) same ∙ again.0,
       subst (λ zs. AllZip States (groups_of zs) (map (settled_record s) rs)) (sym same) (all_said (groups_of (zones_of (records_layout s cse rs))) (map (settled_record s) rs) again.1),
     )

@@ -3,7 +3,7 @@ use Rattle.std.proofs.Common.{◌≡◌, ℕ, ◌≤◌, true, false, inl, List,
 use Rattle.std.specs.Prelude.{flat_map, option_map, option_to_list, IfSome}
 use Rattle.std.specs.List.{AllByRecursion}
 use Rattle.std.proofs.lemmas.List.{length-map}
-use Rattle.edi_line.specs.Entry.{Entry}
+use Rattle.edi_line.specs.ZoneData.{ZoneData}
 use Rattle.edi_line.specs.Refusal.{IsUnbroken}
 use Rattle.edi_line.specs.inner.Refusal.{first_broken}
 use Rattle.edi_line.specs.Zones.{IsGroup, IsFileOf, groups_of}
@@ -33,7 +33,7 @@ use Rattle.edi_record.proofs.Unnumbered.{bare, bare_tests, same_groups}
 
 -- ---- the shape of a file
 
-abbrev IsInner : Entry → Type 0
+abbrev IsInner : ZoneData → Type 0
 IsInner z = is_inner (kind_of z.code) ≡ true
 
 inner_body : HoldsInBody IsInner
@@ -68,7 +68,7 @@ charset_zones : (cse : Option (List ℕ)) → map cse_zone (option_to_list cse) 
 charset_zones None = refl
 charset_zones (Some text) = refl
 
-joined_groups : (zones : Record → List Entry) (rs : List Record) → flat_map zones rs ≡ flat_map (λ g. g) (map zones rs)
+joined_groups : (zones : Record → List ZoneData) (rs : List Record) → flat_map zones rs ≡ flat_map (λ g. g) (map zones rs)
 joined_groups zones [] = refl
 joined_groups zones (r ∷ rs) = ap (λ t. zones r ++ t) (joined_groups zones rs)
 
@@ -91,7 +91,7 @@ sheet_file s cse rs h = record {
 
 -- ---- rules of records
 
-abbrev IsKept : List Entry → Type 0
+abbrev IsKept : List ZoneData → Type 0
 IsKept group = first_broken (record_tests group) ≡ None
 
 each_of : {X : Type 0} (P Q : X → Type 0) → ((x : X) → P x → Q x) → (xs : List X) → AllByRecursion P xs → AllByRecursion Q xs
@@ -107,7 +107,7 @@ unmapped P f [] h = tt
 unmapped P f (x ∷ xs) h = (h.0, unmapped P f xs h.1)
 
 -- groups that break no rule break none where they are line_numbered
-numbered_kept : (n : ℕ) (zs : List Entry) → AllByRecursion IsKept (groups_of zs) → AllByRecursion IsKept (groups_of (line_numbered n zs))
+numbered_kept : (n : ℕ) (zs : List ZoneData) → AllByRecursion IsKept (groups_of zs) → AllByRecursion IsKept (groups_of (line_numbered n zs))
 numbered_kept n zs h =
     let plain = mapped IsKept bare (groups_of zs) (each_of IsKept (λ g. IsKept (bare g)) (λ g k. ap first_broken (bare_tests g) ∙ k) (groups_of zs) h) in
     let same = subst (AllByRecursion IsKept) (sym (same_groups n zs)) plain in
@@ -117,11 +117,11 @@ records_kept : (s : Letters) (rs : List Record) → AllByRecursion IsRecord rs �
 records_kept s [] h k = tt
 records_kept s (r ∷ rs) h k = (printed_unbroken s r h.0 k.0, records_kept s rs h.1 k.1)
 
-one_of : (before : List (List Entry)) (group : List Entry) (after : List (List Entry)) → AllByRecursion IsKept (before ++ group ∷ after) → IsKept group
+one_of : (before : List (List ZoneData)) (group : List ZoneData) (after : List (List ZoneData)) → AllByRecursion IsKept (before ++ group ∷ after) → IsKept group
 one_of [] group after h = h.0
 one_of (g ∷ before) group after h = one_of before group after h.1
 
-kept_unbroken : (zones : List Entry) → AllByRecursion IsKept (groups_of zones) → IsUnbroken (FailsTest zones)
+kept_unbroken : (zones : List ZoneData) → AllByRecursion IsKept (groups_of zones) → IsUnbroken (FailsTest zones)
 kept_unbroken zones h rule place b = none_broken (record_tests b.group) (one_of b.before b.group b.after (subst (AllByRecursion IsKept) b.cut h)) rule b.breaks
 
 -- What is printed of a sheet breaks no rule.

@@ -5,7 +5,7 @@ use Rattle.std.specs.List.{AllByRecursion, list_any}
 use Rattle.std.proofs.lemmas.Bool.{or_parts}
 use Rattle.std.proofs.lemmas.List.{append-nil}
 use Rattle.std.proofs.lemmas.List.Elements.{All-from_recursion, filter-append}
-use Rattle.edi_line.specs.Entry.{Entry, has_code}
+use Rattle.edi_line.specs.ZoneData.{ZoneData, has_code}
 use Rattle.edi_line.specs.Number.{plain_text, signed_text, size_of, MOST}
 use Rattle.edi_line.specs.inner.Number.{number}
 use Rattle.edi_line.specs.Printing.{zone_text}
@@ -87,28 +87,28 @@ unknown rty e h = any_apart (bytes_eq e.code) known_anywhere (or_parts (list_any
 
 -- ---- what holds of each zone
 
-pub none_found : (p : Entry → Bool) (zs : List Entry) → AllByRecursion (λ z. p z ≡ false) zs → filter p zs ≡ []
+pub none_found : (p : ZoneData → Bool) (zs : List ZoneData) → AllByRecursion (λ z. p z ≡ false) zs → filter p zs ≡ []
 none_found p [] h = refl
 none_found p (z ∷ zs) h = rw h.0 (none_found p zs h.1)
 
-pub joined : (P : Entry → Type 0) (xs ys : List Entry) → AllByRecursion P xs → AllByRecursion P ys → AllByRecursion P (xs ++ ys)
+pub joined : (P : ZoneData → Type 0) (xs ys : List ZoneData) → AllByRecursion P xs → AllByRecursion P ys → AllByRecursion P (xs ++ ys)
 joined P [] ys h k = k
 joined P (x ∷ xs) ys h k = (h.0, joined P xs ys h.1 k)
 
-pub mapped : {X : Type 0} (P : Entry → Type 0) (f : X → Entry) → ((x : X) → P (f x)) → (xs : List X) → AllByRecursion P (map f xs)
+pub mapped : {X : Type 0} (P : ZoneData → Type 0) (f : X → ZoneData) → ((x : X) → P (f x)) → (xs : List X) → AllByRecursion P (map f xs)
 mapped P f k [] = tt
 mapped P f k (x ∷ xs) = (k x, mapped P f k xs)
 
-pub mapped_each : {X : Type 0} (P : Entry → Type 0) (Q : X → Type 0) (f : X → Entry) → ((x : X) → Q x → P (f x)) → (xs : List X) → AllByRecursion Q xs → AllByRecursion P (map f xs)
+pub mapped_each : {X : Type 0} (P : ZoneData → Type 0) (Q : X → Type 0) (f : X → ZoneData) → ((x : X) → Q x → P (f x)) → (xs : List X) → AllByRecursion Q xs → AllByRecursion P (map f xs)
 mapped_each P Q f k [] h = tt
 mapped_each P Q f k (x ∷ xs) h = (k x h.0, mapped_each P Q f k xs h.1)
 
-pub flat_mapped : {X : Type 0} (P : Entry → Type 0) (f : X → List Entry) → ((x : X) → AllByRecursion P (f x)) → (xs : List X) → AllByRecursion P (flat_map f xs)
+pub flat_mapped : {X : Type 0} (P : ZoneData → Type 0) (f : X → List ZoneData) → ((x : X) → AllByRecursion P (f x)) → (xs : List X) → AllByRecursion P (flat_map f xs)
 flat_mapped P f k [] = tt
 flat_mapped P f k (x ∷ xs) = joined P (f x) (flat_map f xs) (k x) (flat_mapped P f k xs)
 
 -- what holds of zones of points, of ends and of their counts
-pub record HoldsInBody (P : Entry → Type 0) : Type 0 where
+pub record HoldsInBody (P : ZoneData → Type 0) : Type 0 where
   pub ptc : (text : List ℕ) → P (zone_text (codes "PTC") 83 78 text)
   pub ftc : (text : List ℕ) → P (zone_text (codes "FTC") 83 78 text)
   pub cor : (x : Point) → P (point_zone x)
@@ -116,42 +116,42 @@ pub record HoldsInBody (P : Entry → Type 0) : Type 0 where
   pub sns : (text : List ℕ) → P (sns_zone text)
 
 -- of zones of attributes and their count
-pub record HoldsBehind (P : Entry → Type 0) : Type 0 where
+pub record HoldsBehind (P : ZoneData → Type 0) : Type 0 where
   pub atc : (text : List ℕ) → P (zone_text (codes "ATC") 83 78 text)
   pub atp : (text : List ℕ) → P (zone_text (codes "ATP") 67 80 text)
   pub tex : (text : List ℕ) → P (set_zone text)
   pub atv : (letter : ℕ) (text : List ℕ) → P (zone_text (codes "ATV") 83 letter text)
 
-count_each : (P : Entry → Type 0) → HoldsInBody P → (kind : Kind) (m n : ℕ) → AllByRecursion P (count_zones kind m n)
+count_each : (P : ZoneData → Type 0) → HoldsInBody P → (kind : Kind) (m n : ℕ) → AllByRecursion P (count_zones kind m n)
 count_each P k Pno m n = tt
 count_each P k Par m n = (k.ptc (decimal m), tt)
 count_each P k Pfe m n = tt
 count_each P k Fea m n = tt
 count_each P k Lnk m n = (k.ftc (decimal n), tt)
 
-end_each : (P : Entry → Type 0) → HoldsInBody P → (e : End) → AllByRecursion P (zones_of_end e)
+end_each : (P : ZoneData → Type 0) → HoldsInBody P → (e : End) → AllByRecursion P (zones_of_end e)
 unfolding zones_of_end
 end_each P k e = (k.ftp (end_text e.target), mapped P sns_zone k.sns (option_to_list e.sns))
 
-pub body_each : (P : Entry → Type 0) → HoldsInBody P → (kind : Kind) (points : List Point) (ends : List End) → AllByRecursion P (zones_of_body kind points ends)
+pub body_each : (P : ZoneData → Type 0) → HoldsInBody P → (kind : Kind) (points : List Point) (ends : List End) → AllByRecursion P (zones_of_body kind points ends)
 unfolding zones_of_body
 body_each P k kind points ends =
     joined P (count_zones kind (length points) (length ends)) _ (count_each P k kind (length points) (length ends))
     (joined P (map point_zone points) _ (mapped P point_zone k.cor points) (flat_mapped P zones_of_end (end_each P k) ends))
 
-attribute_each : (P : Entry → Type 0) → HoldsBehind P → (s : Letters) (a : Attribute) → AllByRecursion P (zones_of_attribute s a)
+attribute_each : (P : ZoneData → Type 0) → HoldsBehind P → (s : Letters) (a : Attribute) → AllByRecursion P (zones_of_attribute s a)
 unfolding zones_of_attribute
 attribute_each P k s a = joined P (zone_text (codes "ATP") 67 80 (class_text a.atp) ∷ map set_zone (option_to_list a.tex)) _ (k.atp (class_text a.atp), mapped P set_zone k.tex (option_to_list a.tex)) (k.atv (s.letter a.atp) _, tt)
 
 -- the zones behind the body
-pub behind : Letters → Record → List Entry
+pub behind : Letters → Record → List ZoneData
 behind s r = zone_text (codes "ATC") 83 78 (decimal (length r.attributes)) ∷ (flat_map (zones_of_attribute s) r.attributes ++ map extra_zone r.extras)
 
 pub behind_is : (s : Letters) (r : Record) → behind s r ≡ zone_text (codes "ATC") 83 78 (decimal (length r.attributes)) ∷ (flat_map (zones_of_attribute s) r.attributes ++ map extra_zone r.extras)
 unfolding behind
 behind_is s r = refl
 
-pub behind_each : (P : Entry → Type 0) → HoldsBehind P → (s : Letters) (r : Record) → ((e : Extra) → IsExtra r.kind e → P (extra_zone e)) → IsRecord r → AllByRecursion P (behind s r)
+pub behind_each : (P : ZoneData → Type 0) → HoldsBehind P → (s : Letters) (r : Record) → ((e : Extra) → IsExtra r.kind e → P (extra_zone e)) → IsRecord r → AllByRecursion P (behind s r)
 unfolding behind
 behind_each P k s r extras h = (
   k.atc (decimal (length r.attributes)),
@@ -162,7 +162,7 @@ behind_each P k s r extras h = (
 
 -- ---- attributes and extras, read from the zones
 
-attribute_again : (s : Letters) (a : Attribute) (rest : List Entry) → IsName a.atp → attributes (zones_of_attribute s a ++ rest) ≡ Some (settled s a) ∷ attributes rest
+attribute_again : (s : Letters) (a : Attribute) (rest : List ZoneData) → IsName a.atp → attributes (zones_of_attribute s a ++ rest) ≡ Some (settled s a) ∷ attributes rest
 unfolding attributes zones_of_attribute set_after value_after
 attribute_again s a rest h = by_set a.tex
   where
@@ -171,14 +171,14 @@ attribute_again s a rest h = by_set a.tex
     by_set None = rw (class_again a.atp h) refl
     by_set (Some text) = rw (class_again a.atp h) refl
 
-attributes_again : (s : Letters) (xs : List Attribute) (rest : List Entry) → AllByRecursion (λ a. IsName a.atp) xs → attributes (flat_map (zones_of_attribute s) xs ++ rest) ≡ map Some (map (settled s) xs) ++ attributes rest
+attributes_again : (s : Letters) (xs : List Attribute) (rest : List ZoneData) → AllByRecursion (λ a. IsName a.atp) xs → attributes (flat_map (zones_of_attribute s) xs ++ rest) ≡ map Some (map (settled s) xs) ++ attributes rest
 attributes_again s [] rest h = refl
 attributes_again s (a ∷ xs) rest h =
     ap attributes (append_assoc (zones_of_attribute s a) (flat_map (zones_of_attribute s) xs) rest)
     ∙ attribute_again s a (flat_map (zones_of_attribute s) xs ++ rest) h.0
     ∙ ap (λ t. Some (settled s a) ∷ t) (attributes_again s xs rest h.1)
 
-skip_body : (zs rest : List Entry) → AllByRecursion (λ z. opens z ≡ false) zs → attributes (zs ++ rest) ≡ attributes rest
+skip_body : (zs rest : List ZoneData) → AllByRecursion (λ z. opens z ≡ false) zs → attributes (zs ++ rest) ≡ attributes rest
 unfolding attributes
 skip_body [] rest h = refl
 skip_body (z ∷ zs) rest h = rw h.0 (skip_body zs rest h.1)
@@ -188,7 +188,7 @@ unfolding attributes
 skip_extras rty [] h = refl
 skip_extras rty (e ∷ xs) h = let u = unknown rty e h.0 in rw u.1.1.1.1.0 (skip_extras rty xs h.1)
 
-picked : Kind → List Entry → List Placed
+picked : Kind → List ZoneData → List Placed
 picked rty zs = filter (is_extra rty) (placed false zs)
 
 pub and_false : (b : Bool) → (b && false) ≡ false
@@ -196,12 +196,12 @@ and_false true = refl
 and_false false = refl
 
 -- a zone that is known in the kind, and neither opens nor closes an attribute
-record IsPlain (kind : Kind) (z : Entry) : Type 0 where
+record IsPlain (kind : Kind) (z : ZoneData) : Type 0 where
   known : is_known kind z.code ≡ true
   opens_none : opens z ≡ false
   closes_none : closes z ≡ false
 
-pick_plain : (kind : Kind) (zs rest : List Entry) → AllByRecursion (IsPlain kind) zs → picked kind (zs ++ rest) ≡ picked kind rest
+pick_plain : (kind : Kind) (zs rest : List ZoneData) → AllByRecursion (IsPlain kind) zs → picked kind (zs ++ rest) ≡ picked kind rest
 unfolding picked placed
 pick_plain kind [] rest h = refl
 pick_plain kind (z ∷ zs) rest h = rw (and_false (has_code (codes "TEX") z), h.0.known, h.0.opens_none, h.0.closes_none) (pick_plain kind zs rest h.1)
@@ -221,7 +221,7 @@ plain_body Pfe points ends p e = rw (p refl, e refl) tt
 plain_body Fea points ends p e = rw (p refl, e refl) tt
 plain_body Lnk points ends p e = rw (p refl) (record { known = refl; opens_none = refl; closes_none = refl }, plain_ends ends)
 
-pick_attribute : (s : Letters) (rty : Kind) (a : Attribute) (rest : List Entry) → picked rty (zones_of_attribute s a ++ rest) ≡ picked rty rest
+pick_attribute : (s : Letters) (rty : Kind) (a : Attribute) (rest : List ZoneData) → picked rty (zones_of_attribute s a ++ rest) ≡ picked rty rest
 unfolding picked placed zones_of_attribute
 pick_attribute s rty a rest = by_set a.tex
   where
@@ -229,7 +229,7 @@ pick_attribute s rty a rest = by_set a.tex
     by_set None = refl
     by_set (Some text) = refl
 
-pick_attributes : (s : Letters) (rty : Kind) (xs : List Attribute) (rest : List Entry) → picked rty (flat_map (zones_of_attribute s) xs ++ rest) ≡ picked rty rest
+pick_attributes : (s : Letters) (rty : Kind) (xs : List Attribute) (rest : List ZoneData) → picked rty (flat_map (zones_of_attribute s) xs ++ rest) ≡ picked rty rest
 pick_attributes s rty [] rest = refl
 pick_attributes s rty (a ∷ xs) rest =
     ap (picked rty) (append_assoc (zones_of_attribute s a) (flat_map (zones_of_attribute s) xs) rest)
@@ -265,25 +265,25 @@ target_again : (e : End) → IsName e.target → end_of (end_text e.target) e.sn
 target_again e h = rw (pointer_again (record { lot = codes "CANON"; subset = codes "S"; rty = e.target.rty; rid = e.target.rid }) canon_part s_part h.rty h.rid) refl
 
 -- a zone that is no end and no SNS
-IsNoEnd : Entry → Type 0
+IsNoEnd : ZoneData → Type 0
 IsNoEnd z = (points_at z ≡ false) × (has_code (codes "SNS") z ≡ false)
 
-no_sns : (zs : List Entry) → AllByRecursion IsNoEnd zs → sns_after zs ≡ None
+no_sns : (zs : List ZoneData) → AllByRecursion IsNoEnd zs → sns_after zs ≡ None
 unfolding sns_after IsNoEnd
 no_sns [] h = refl
 no_sns (z ∷ zs) h = rw (h.0.0, h.0.1) (no_sns zs h.1)
 
-no_ends_in : (zs : List Entry) → AllByRecursion IsNoEnd zs → ends zs ≡ []
+no_ends_in : (zs : List ZoneData) → AllByRecursion IsNoEnd zs → ends zs ≡ []
 unfolding ends IsNoEnd
 no_ends_in [] h = refl
 no_ends_in (z ∷ zs) h = rw h.0.0 (no_ends_in zs h.1)
 
-next_sns : (xs : List End) (rest : List Entry) → AllByRecursion IsNoEnd rest → sns_after (flat_map zones_of_end xs ++ rest) ≡ None
+next_sns : (xs : List End) (rest : List ZoneData) → AllByRecursion IsNoEnd rest → sns_after (flat_map zones_of_end xs ++ rest) ≡ None
 unfolding sns_after zones_of_end
 next_sns [] rest h = no_sns rest h
 next_sns (x ∷ xs) rest h = refl
 
-end_again : (e : End) (rest : List Entry) → IsName e.target → sns_after rest ≡ None → ends (zones_of_end e ++ rest) ≡ Some (settled_end e) ∷ ends rest
+end_again : (e : End) (rest : List ZoneData) → IsName e.target → sns_after rest ≡ None → ends (zones_of_end e ++ rest) ≡ Some (settled_end e) ∷ ends rest
 unfolding ends zones_of_end sns_after
 end_again e rest h none = by_sns e.sns (target_again e h)
   where
@@ -292,7 +292,7 @@ end_again e rest h none = by_sns e.sns (target_again e h)
     by_sns None t = rw (none, t) refl
     by_sns (Some text) t = rw t refl
 
-ends_again : (xs : List End) (rest : List Entry) → AllByRecursion (λ e. IsName e.target) xs → AllByRecursion IsNoEnd rest → ends (flat_map zones_of_end xs ++ rest) ≡ map Some (map settled_end xs)
+ends_again : (xs : List End) (rest : List ZoneData) → AllByRecursion (λ e. IsName e.target) xs → AllByRecursion IsNoEnd rest → ends (flat_map zones_of_end xs ++ rest) ≡ map Some (map settled_end xs)
 ends_again [] rest h k = no_ends_in rest k
 ends_again (x ∷ xs) rest h k =
     ap ends (append_assoc (zones_of_end x) (flat_map zones_of_end xs) rest)
@@ -303,9 +303,9 @@ ends_again (x ∷ xs) rest h k =
 
 -- a code that no zone of the body or behind it has
 nothing_found : (s : Letters) (r : Record) (code : List ℕ) → HoldsInBody (λ z. has_code code z ≡ false) → HoldsBehind (λ z. has_code code z ≡ false) → ((e : Extra) → IsExtra r.kind e → bytes_eq e.code code ≡ false) → IsRecord r
-    → map (λ (z : Entry). z.value) (filter (has_code code) (zones_of_body r.kind r.points r.ends ++ behind s r)) ≡ []
+    → map (λ (z : ZoneData). z.value) (filter (has_code code) (zones_of_body r.kind r.points r.ends ++ behind s r)) ≡ []
 nothing_found s r code body back apart h =
-    ap (map (λ (z : Entry). z.value)) (none_found (has_code code) (zones_of_body r.kind r.points r.ends ++ behind s r)
+    ap (map (λ (z : ZoneData). z.value)) (none_found (has_code code) (zones_of_body r.kind r.points r.ends ++ behind s r)
     (joined (λ z. has_code code z ≡ false) (zones_of_body r.kind r.points r.ends) (behind s r) (body_each (λ z. has_code code z ≡ false) body r.kind r.points r.ends) (behind_each (λ z. has_code code z ≡ false) back s r apart h)))
 
 all_points : (xs : List Point) → filter (has_code (codes "COR")) (map point_zone xs) ≡ map point_zone xs
@@ -329,7 +329,7 @@ cor_found kind points ends =
     filter-append (has_code (codes "COR")) (count_zones kind (length points) (length ends)) _
     ∙ rw (no_count kind (length points) (length ends), filter-append (has_code (codes "COR")) (map point_zone points) (flat_map zones_of_end ends), all_points points, no_end_cor ends) (append-nil (map point_zone points))
 
-points_again : (xs : List Point) → AllByRecursion IsPoint xs → map point (map (λ (z : Entry). z.value) (map point_zone xs)) ≡ map Some xs
+points_again : (xs : List Point) → AllByRecursion IsPoint xs → map point (map (λ (z : ZoneData). z.value) (map point_zone xs)) ≡ map Some xs
 points_again [] h = refl
 points_again (x ∷ xs) h = rw (point_again x h.0, points_again xs h.1) refl
 
@@ -359,10 +359,10 @@ points_stated s r h = go (has_points r.kind) refl
     go true t =
         let none = none_found (has_code (codes "COR")) (behind s r) (behind_each (λ z. has_code (codes "COR") z ≡ false) (record { atc = λ _. refl; atp = λ _. refl; tex = λ _. refl; atv = λ _ _. refl }) s r (cor_apart r.kind t) h) in
         let all : filter (has_code (codes "COR")) (zones_of_body r.kind r.points r.ends ++ behind s r) ≡ map point_zone r.points = filter-append (has_code (codes "COR")) (zones_of_body r.kind r.points r.ends) (behind s r) ∙ rw (none, cor_found r.kind r.points r.ends) (append-nil (map point_zone r.points)) in
-        ap (λ zs. map point (values (codes "COR") zs)) (record_is s r) ∙ ap (λ (zs : List Entry). map point (map (λ z. z.value) zs)) all ∙ points_again r.points h.points
+        ap (λ zs. map point (values (codes "COR") zs)) (record_is s r) ∙ ap (λ (zs : List ZoneData). map point (map (λ z. z.value) zs)) all ∙ points_again r.points h.points
     go false t = rw (h.no_points t) refl
 
-skip_count : (points : List Point) (xs : List End) (rest : List Entry) → points ≡ [] → ends (zones_of_body Lnk points xs ++ rest) ≡ ends (flat_map zones_of_end xs ++ rest)
+skip_count : (points : List Point) (xs : List End) (rest : List ZoneData) → points ≡ [] → ends (zones_of_body Lnk points xs ++ rest) ≡ ends (flat_map zones_of_end xs ++ rest)
 unfolding zones_of_body ends
 skip_count points xs rest e = rw e refl
 

@@ -5,7 +5,7 @@ use Rattle.std.specs.List.{list_any, before_first, AllZip}
 use Rattle.std.proofs.lemmas.Bool.{both_ways, and_parts, and_from, not-true, false_from_ne_true}
 use Rattle.std.proofs.lemmas.List.{append_assoc}
 use Rattle.std.proofs.lemmas.List.Folds.{list_any-append}
-use Rattle.edi_line.specs.Entry.{Entry, has_code, first}
+use Rattle.edi_line.specs.ZoneData.{ZoneData, has_code, first}
 use Rattle.edi_line.specs.Made.{AreMadeFrom}
 use Rattle.edi_line.proofs.Numbers.{number_unique}
 use Rattle.edi_record.specs.Records.{values, has_points, is_link, IsOpen, opens, closes, IsAttributeAt, points_at, IsEndAt, IsExtraAt, IsValueOf, may_be_number, IsExtraOf, States}
@@ -42,9 +42,9 @@ found_zip f P from (x ∷ xs) (y ∷ ys) h = ap (λ o. o ∷ map f xs) (from x y
 
 -- ---- one item for each zone that passes
 
-module _ {Y : Type 0} (p : Entry → Bool) (f : Entry → List Entry → Option Y) (F : List Entry → List (Option Y)) (m : IsMadeBy p f F) (Makes : List Entry → Entry → List Entry → Y → Type 0) where
-  made_said : ((front : List Entry) (z : Entry) (behind : List Entry) (y : Y) → f z behind ≡ Some y → Makes front z behind y)
-      → (front group : List Entry) (ys : List Y) → F group ≡ map Some ys → AreMadeFrom (λ front z. p z ≡ true) Makes front group ys
+module _ {Y : Type 0} (p : ZoneData → Bool) (f : ZoneData → List ZoneData → Option Y) (F : List ZoneData → List (Option Y)) (m : IsMadeBy p f F) (Makes : List ZoneData → ZoneData → List ZoneData → Y → Type 0) where
+  made_said : ((front : List ZoneData) (z : ZoneData) (behind : List ZoneData) (y : Y) → f z behind ≡ Some y → Makes front z behind y)
+      → (front group : List ZoneData) (ys : List Y) → F group ≡ map Some ys → AreMadeFrom (λ front z. p z ≡ true) Makes front group ys
   made_said to front [] [] e = refl
   made_said to front [] (y ∷ ys) e = let h : ◌≡◌ {A = List (Option Y)} [] (Some y ∷ map Some ys) = sym m.none ∙ e in absurd cc
   made_said to front (z ∷ zs) ys e = go (λ more h. made_said to (front ++ z ∷ []) zs more h) (p z) refl ys e
@@ -57,8 +57,8 @@ module _ {Y : Type 0} (p : Entry → Bool) (f : Entry → List Entry → Option 
           inl (y, ys, q, to front z zs y cc, refl, rest ys cc)
       go rest false q ys e = inr (λ t. both_ways _ q t, rest ys (sym (m.skip z zs q) ∙ e))
 
-  made_read : ((front : List Entry) (z : Entry) (behind : List Entry) (y : Y) → Makes front z behind y → f z behind ≡ Some y)
-      → (front group : List Entry) (ys : List Y) → AreMadeFrom (λ front z. p z ≡ true) Makes front group ys → F group ≡ map Some ys
+  made_read : ((front : List ZoneData) (z : ZoneData) (behind : List ZoneData) (y : Y) → Makes front z behind y → f z behind ≡ Some y)
+      → (front group : List ZoneData) (ys : List Y) → AreMadeFrom (λ front z. p z ≡ true) Makes front group ys → F group ≡ map Some ys
   made_read from front [] ys e = m.none ∙ sym (ap (map Some) e)
   made_read from front (z ∷ zs) ys (inl (y, more, q, makes, e, h)) =
       m.here z zs q ∙ ap (λ o. o ∷ F zs) (from front z zs y makes) ∙ ap (λ os. Some y ∷ os) (made_read from (front ++ z ∷ []) zs more h) ∙ sym (ap (map Some) e)
@@ -86,13 +86,13 @@ points_read text name h = ap (option_map name_made) ((pointer_is text (record { 
 abbrev attribute_made : Option (List ℕ) → List ℕ → Name → Attribute
 attribute_made tex atv name = record { atp = name; tex = tex; atv = atv }
 
-abbrev set_behind : List Entry → Option (List ℕ)
+abbrev set_behind : List ZoneData → Option (List ℕ)
 set_behind behind = first (values (codes "TEX") (before_first closes (before_first opens behind)))
 
-abbrev value_behind : List Entry → List ℕ
+abbrev value_behind : List ZoneData → List ℕ
 value_behind behind = unwrap_or (first (values (codes "ATV") (before_first opens behind))) []
 
-attribute_said : (front : List Entry) (z : Entry) (behind : List Entry) (a : Attribute) → attribute_in z behind ≡ Some a → IsAttributeAt front z behind a
+attribute_said : (front : List ZoneData) (z : ZoneData) (behind : List ZoneData) (a : Attribute) → attribute_in z behind ≡ Some a → IsAttributeAt front z behind a
 attribute_said front z behind a e = go (class_of z.value) refl e
   where
     go : (o : Option Name) → class_of z.value ≡ o → option_map (attribute_made (set_behind behind) (value_behind behind)) o ≡ Some a → IsAttributeAt front z behind a
@@ -101,20 +101,20 @@ attribute_said front z behind a e = go (class_of z.value) refl e
         subst (IsAttributeAt front z behind) same (record { class = points_said z.value name q; set = refl; value = refl })
     go None q e = absurd cc
 
-attribute_read : (front : List Entry) (z : Entry) (behind : List Entry) (a : Attribute) → IsAttributeAt front z behind a → attribute_in z behind ≡ Some a
+attribute_read : (front : List ZoneData) (z : ZoneData) (behind : List ZoneData) (a : Attribute) → IsAttributeAt front z behind a → attribute_in z behind ≡ Some a
 attribute_read front z behind a h =
     ap (option_map (attribute_made (set_behind behind) (value_behind behind))) (points_read z.value a.atp h.class)
     ∙ ap (λ t. Some (attribute_made t (value_behind behind) a.atp)) (sym h.set) ∙ ap (λ t. Some (attribute_made a.tex t a.atp)) (sym h.value)
 
 -- ---- ends
 
-abbrev sns_behind : List Entry → Option (List ℕ)
+abbrev sns_behind : List ZoneData → Option (List ℕ)
 sns_behind behind = first (values (codes "SNS") (before_first points_at behind))
 
 abbrev end_made : Option (List ℕ) → PointerText → End
 end_made sns p = record { lot = p.lot; subset = p.subset; target = record { rty = p.rty; rid = p.rid }; sns = sns }
 
-end_said : (front : List Entry) (z : Entry) (behind : List Entry) (x : End) → end_in z behind ≡ Some x → IsEndAt front z behind x
+end_said : (front : List ZoneData) (z : ZoneData) (behind : List ZoneData) (x : End) → end_in z behind ≡ Some x → IsEndAt front z behind x
 end_said front z behind x e = go (pointer z.value) refl e
   where
     go : (o : Option PointerText) → pointer z.value ≡ o → option_map (end_made (sns_behind behind)) o ≡ Some x → IsEndAt front z behind x
@@ -123,7 +123,7 @@ end_said front z behind x e = go (pointer z.value) refl e
         subst (IsEndAt front z behind) same (record { names = (pointer_is z.value p).0 q; sns = refl })
     go None q e = absurd cc
 
-end_read : (front : List Entry) (z : Entry) (behind : List Entry) (x : End) → IsEndAt front z behind x → end_in z behind ≡ Some x
+end_read : (front : List ZoneData) (z : ZoneData) (behind : List ZoneData) (x : End) → IsEndAt front z behind x → end_in z behind ≡ Some x
 end_read front z behind x h =
     ap (option_map (end_made (sns_behind behind))) ((pointer_is z.value (record { lot = x.lot; subset = x.subset; rty = x.target.rty; rid = x.target.rid })).1 h.names)
     ∙ ap (λ t. Some (end_made t (record { lot = x.lot; subset = x.subset; rty = x.target.rty; rid = x.target.rid }))) (sym h.sns)
@@ -144,23 +144,23 @@ value_read may text v h = value_one (may ≡ true) text v (value_of may text) h 
 abbrev extra_made : List ℕ → ℕ → ℕ → Value → Extra
 extra_made code nature format value = record { code = code; nature = nature; format = format; value = value }
 
-extra_said : (front : List Entry) (z : Entry) (behind : List Entry) → IsExtraOf front z behind (extra z)
+extra_said : (front : List ZoneData) (z : ZoneData) (behind : List ZoneData) → IsExtraOf front z behind (extra z)
 extra_said front z behind = record { code = refl; nature = refl; format = refl; value = value_said (may_be_number z.format) z.value }
 
-extra_read : (front : List Entry) (z : Entry) (behind : List Entry) (x : Extra) → IsExtraOf front z behind x → x ≡ extra z
+extra_read : (front : List ZoneData) (z : ZoneData) (behind : List ZoneData) (x : Extra) → IsExtraOf front z behind x → x ≡ extra z
 extra_read front z behind x h =
     ap (λ t. extra_made t x.nature x.format x.value) h.code ∙ ap (λ t. extra_made z.code t x.format x.value) h.nature
     ∙ ap (λ t. extra_made z.code z.nature t x.value) h.format ∙ ap (extra_made z.code z.nature z.format) (value_read (may_be_number z.format) z.value x.value h.value)
 
 -- an attribute is open behind these zones, by whatever belongs to it
-abbrev pub Open : List Entry → Type 0
-Open front = (since : List Entry) × IsOpen front since
+abbrev pub Open : List ZoneData → Type 0
+Open front = (since : List ZoneData) × IsOpen front since
 
 -- a test that says so
-abbrev pub SaysOpen : Bool → List Entry → Type 0
+abbrev pub SaysOpen : Bool → List ZoneData → Type 0
 SaysOpen b front = b ≡ true ↔ Open front
 
-no_cut : (before : List Entry) (head : Entry) (since : List Entry) → [] ≡ before ++ head ∷ since → ⊥
+no_cut : (before : List ZoneData) (head : ZoneData) (since : List ZoneData) → [] ≡ before ++ head ∷ since → ⊥
 no_cut [] head since e = cc
 no_cut (x ∷ before) head since e = cc
 
@@ -168,10 +168,10 @@ pub open_none : SaysOpen false []
 open_none = (λ e. (let h : false ≡ true = e in absurd cc), λ h. absurd (no_cut h.1.before h.1.head h.0 h.1.cut))
 
 -- where the last zone is taken off a cut
-abbrev PushCut : List Entry → Entry → List Entry → Entry → List Entry → Type 0
-PushCut front z before head since = ((front ≡ before) × (z ≡ head) × (since ≡ [])) ⊎ ((rest : List Entry) × (since ≡ rest ++ z ∷ []) × (front ≡ before ++ head ∷ rest))
+abbrev PushCut : List ZoneData → ZoneData → List ZoneData → ZoneData → List ZoneData → Type 0
+PushCut front z before head since = ((front ≡ before) × (z ≡ head) × (since ≡ [])) ⊎ ((rest : List ZoneData) × (since ≡ rest ++ z ∷ []) × (front ≡ before ++ head ∷ rest))
 
-push_cut : (front : List Entry) (z : Entry) (before : List Entry) (head : Entry) (since : List Entry) → front ++ z ∷ [] ≡ before ++ head ∷ since → PushCut front z before head since
+push_cut : (front : List ZoneData) (z : ZoneData) (before : List ZoneData) (head : ZoneData) (since : List ZoneData) → front ++ z ∷ [] ≡ before ++ head ∷ since → PushCut front z before head since
 push_cut [] z [] head since e = inl (refl, cc, cc)
 push_cut [] z (b ∷ before) head since e = absurd (no_cut before head since cc)
 push_cut (x ∷ front) z [] head since e =
@@ -187,10 +187,10 @@ push_cut (x ∷ front) z (b ∷ before) head since e = along (push_cut front z b
     along (inl h) = inl (ap (λ w. w ∷ front) first_same ∙ ap (λ l. b ∷ l) h.0, h.1, h.2)
     along (inr h) = inr (h.0, h.1, ap (λ w. w ∷ front) first_same ∙ ap (λ l. b ∷ l) h.2)
 
-any_push : (p : Entry → Bool) (xs : List Entry) (x : Entry) → list_any p xs ≡ false → p x ≡ false → list_any p (xs ++ x ∷ []) ≡ false
+any_push : (p : ZoneData → Bool) (xs : List ZoneData) (x : ZoneData) → list_any p xs ≡ false → p x ≡ false → list_any p (xs ++ x ∷ []) ≡ false
 any_push p xs x h k = list_any-append p xs (x ∷ []) ∙ rw (h, k) refl
 
-any_pushed : (p : Entry → Bool) (xs : List Entry) (x : Entry) → list_any p (xs ++ x ∷ []) ≡ false → (list_any p xs ≡ false) × (p x ≡ false)
+any_pushed : (p : ZoneData → Bool) (xs : List ZoneData) (x : ZoneData) → list_any p (xs ++ x ∷ []) ≡ false → (list_any p xs ≡ false) × (p x ≡ false)
 any_pushed p xs x e = go (list_any p xs) refl (p x) refl
   where
     go : (a : Bool) → list_any p xs ≡ a → (b : Bool) → p x ≡ b → (list_any p xs ≡ false) × (p x ≡ false)
@@ -198,13 +198,13 @@ any_pushed p xs x e = go (list_any p xs) refl (p x) refl
     go true h b k = let t : true ≡ false = sym (list_any-append p xs (x ∷ []) ∙ rw h refl) ∙ e in absurd cc
     go false h true k = let t : true ≡ false = sym (list_any-append p xs (x ∷ []) ∙ rw (h, k) refl) ∙ e in absurd cc
 
-abbrev ends_attribute : Entry → Bool
+abbrev ends_attribute : ZoneData → Bool
 ends_attribute z = opens z || closes z
 
-open_begun : (front : List Entry) (z : Entry) → opens z ≡ true → Open (front ++ z ∷ [])
+open_begun : (front : List ZoneData) (z : ZoneData) → opens z ≡ true → Open (front ++ z ∷ [])
 open_begun front z q = ([], record { before = front; head = z; cut = refl; begun = q; goes_on = refl })
 
-open_still : (front : List Entry) (z : Entry) → ends_attribute z ≡ false → Open front → Open (front ++ z ∷ [])
+open_still : (front : List ZoneData) (z : ZoneData) → ends_attribute z ≡ false → Open front → Open (front ++ z ∷ [])
 open_still front z q h = (
   h.0 ++ z ∷ [],
   record {
@@ -216,7 +216,7 @@ open_still front z q h = (
   },
 )
 
-open_back : (front : List Entry) (z : Entry) → opens z ≡ false → Open (front ++ z ∷ []) → (ends_attribute z ≡ false) × Open front
+open_back : (front : List ZoneData) (z : ZoneData) → opens z ≡ false → Open (front ++ z ∷ []) → (ends_attribute z ≡ false) × Open front
 open_back front z q h = along (push_cut front z h.1.before h.1.head h.0 h.1.cut)
   where
     along : PushCut front z h.1.before h.1.head h.0 → (ends_attribute z ≡ false) × Open front
@@ -226,7 +226,7 @@ open_back front z q h = along (push_cut front z h.1.before h.1.head h.0 h.1.cut)
         (off.1, (k.0, record { before = h.1.before; head = h.1.head; cut = k.2; begun = h.1.begun; goes_on = off.0 }))
 
 -- one zone more
-pub open_more : (b : Bool) (front : List Entry) (z : Entry) → SaysOpen b front → SaysOpen (is_open_after b z) (front ++ z ∷ [])
+pub open_more : (b : Bool) (front : List ZoneData) (z : ZoneData) → SaysOpen b front → SaysOpen (is_open_after b z) (front ++ z ∷ [])
 open_more b front z says = go (opens z) refl (closes z) refl
   where
     go : (o : Bool) → opens z ≡ o → (c : Bool) → closes z ≡ c → SaysOpen (cond o true (cond c false b)) (front ++ z ∷ [])
@@ -240,7 +240,7 @@ neither false false e = (refl, refl)
 neither false true e = absurd cc
 neither true y e = absurd cc
 
-pub extra_test : (kind : Kind) (b : Bool) (front : List Entry) (z : Entry) → SaysOpen b front → is_extra kind (record { open_before = b; zone = z }) ≡ true → IsExtraAt kind front z
+pub extra_test : (kind : Kind) (b : Bool) (front : List ZoneData) (z : ZoneData) → SaysOpen b front → is_extra kind (record { open_before = b; zone = z }) ≡ true → IsExtraAt kind front z
 extra_test kind b front z says e =
     let p = neither _ _ (not-true _ e) in
     record {
@@ -248,27 +248,27 @@ extra_test kind b front z says e =
       no_set = λ since h. false_from_ne_true _ (λ t. both_ways _ p.0 (and_from _ _ t (says.1 (since, h))));
     }
 
-pub test_extra : (kind : Kind) (b : Bool) (front : List Entry) (z : Entry) → SaysOpen b front → IsExtraAt kind front z → is_extra kind (record { open_before = b; zone = z }) ≡ true
+pub test_extra : (kind : Kind) (b : Bool) (front : List ZoneData) (z : ZoneData) → SaysOpen b front → IsExtraAt kind front z → is_extra kind (record { open_before = b; zone = z }) ≡ true
 test_extra kind b front z says h =
     let set : (has_code (codes "TEX") z && b) ≡ false = false_from_ne_true _ (λ t. let p = and_parts _ _ t in let o = says.0 p.1 in both_ways _ (h.no_set o.0 o.1) p.0) in
     rw (set, h.unknown) refl
 
-abbrev extras_from : Kind → Bool → List Entry → List Extra
+abbrev extras_from : Kind → Bool → List ZoneData → List Extra
 extras_from kind b group = map (λ (p : Placed). extra p.zone) (filter (is_extra kind) (placed b group))
 
 extras_end : (kind : Kind) (b : Bool) → extras_from kind b [] ≡ []
 unfolding placed
 extras_end kind b = refl
 
-extras_here : (kind : Kind) (b : Bool) (z : Entry) (zs : List Entry) → is_extra kind (record { open_before = b; zone = z }) ≡ true → extras_from kind b (z ∷ zs) ≡ extra z ∷ extras_from kind (is_open_after b z) zs
+extras_here : (kind : Kind) (b : Bool) (z : ZoneData) (zs : List ZoneData) → is_extra kind (record { open_before = b; zone = z }) ≡ true → extras_from kind b (z ∷ zs) ≡ extra z ∷ extras_from kind (is_open_after b z) zs
 unfolding placed
 extras_here kind b z zs e = rw e refl
 
-extras_skip : (kind : Kind) (b : Bool) (z : Entry) (zs : List Entry) → is_extra kind (record { open_before = b; zone = z }) ≡ false → extras_from kind b (z ∷ zs) ≡ extras_from kind (is_open_after b z) zs
+extras_skip : (kind : Kind) (b : Bool) (z : ZoneData) (zs : List ZoneData) → is_extra kind (record { open_before = b; zone = z }) ≡ false → extras_from kind b (z ∷ zs) ≡ extras_from kind (is_open_after b z) zs
 unfolding placed
 extras_skip kind b z zs e = rw e refl
 
-extras_said : (kind : Kind) (b : Bool) (front group : List Entry) → SaysOpen b front → AreMadeFrom (IsExtraAt kind) IsExtraOf front group (extras_from kind b group)
+extras_said : (kind : Kind) (b : Bool) (front group : List ZoneData) → SaysOpen b front → AreMadeFrom (IsExtraAt kind) IsExtraOf front group (extras_from kind b group)
 extras_said kind b front [] says = extras_end kind b
 extras_said kind b front (z ∷ zs) says = go (extras_said kind (is_open_after b z) (front ++ z ∷ []) zs (open_more b front z says)) (is_extra kind (record { open_before = b; zone = z })) refl
   where
@@ -277,7 +277,7 @@ extras_said kind b front (z ∷ zs) says = go (extras_said kind (is_open_after b
     go more true e = inl (extra z, extras_from kind (is_open_after b z) zs, extra_test kind b front z says e, extra_said front z zs, extras_here kind b z zs e, more)
     go more false e = inr (λ h. both_ways _ e (test_extra kind b front z says h), subst (AreMadeFrom (IsExtraAt kind) IsExtraOf (front ++ z ∷ []) zs) (sym (extras_skip kind b z zs e)) more)
 
-extras_read : (kind : Kind) (group : List Entry) (xs : List Extra) → AreMadeFrom (IsExtraAt kind) IsExtraOf [] group xs → extras kind group ≡ xs
+extras_read : (kind : Kind) (group : List ZoneData) (xs : List Extra) → AreMadeFrom (IsExtraAt kind) IsExtraOf [] group xs → extras kind group ≡ xs
 extras_read kind group xs h =
     sym (made_one (IsExtraAt kind) IsExtraOf (λ front z behind x y s t. extra_read front z behind x s ∙ sym (extra_read front z behind y t)) [] group xs (extras kind group) h (extras_said kind false [] group open_none))
 
@@ -292,11 +292,11 @@ points_chosen : (b : Bool) (texts : List (List ℕ)) → cond b (map point texts
 points_chosen true texts = refl
 points_chosen false texts = refl
 
-ends_chosen : (b : Bool) (group : List Entry) → cond b (ends group) [] ≡ ends (cond b group [])
+ends_chosen : (b : Bool) (group : List ZoneData) → cond b (ends group) [] ≡ ends (cond b group [])
 ends_chosen true group = refl
 ends_chosen false group = sym ends_made.none
 
-pub states_said : (group : List Entry) (r : Record) → ReadsAs group r → States group r
+pub states_said : (group : List ZoneData) (r : Record) → ReadsAs group r → States group r
 states_said group r h = record {
   type = h.type;
   rid = h.rid;
@@ -307,7 +307,7 @@ states_said group r h = record {
   extras = subst (AreMadeFrom (IsExtraAt r.kind) IsExtraOf [] group) h.extras (extras_said r.kind false [] group open_none);
 }
 
-pub states_read : (group : List Entry) (r : Record) → States group r → ReadsAs group r
+pub states_read : (group : List ZoneData) (r : Record) → States group r → ReadsAs group r
 states_read group r h = record {
   type = h.type;
   rid = h.rid;
@@ -318,16 +318,16 @@ states_read group r h = record {
   extras = extras_read r.kind group r.extras h.extras;
 }
 
-pub states_unique : (group : List Entry) (r q : Record) → States group r → States group q → r ≡ q
+pub states_unique : (group : List ZoneData) (r q : Record) → States group r → States group q → r ≡ q
 states_unique group r q h k = states_one group r q (states_read group r h) (states_read group q k)
 
-pub all_said : (groups : List (List Entry)) (list : List Record) → AllZip ReadsAs groups list → AllZip States groups list
+pub all_said : (groups : List (List ZoneData)) (list : List Record) → AllZip ReadsAs groups list → AllZip States groups list
 all_said [] [] h = tt
 all_said [] (r ∷ list) h = absurd h
 all_said (g ∷ groups) [] h = absurd h
 all_said (g ∷ groups) (r ∷ list) h = (states_said g r h.0, all_said groups list h.1)
 
-pub all_read : (groups : List (List Entry)) (list : List Record) → AllZip States groups list → AllZip ReadsAs groups list
+pub all_read : (groups : List (List ZoneData)) (list : List Record) → AllZip States groups list → AllZip ReadsAs groups list
 all_read [] [] h = tt
 all_read [] (r ∷ list) h = absurd h
 all_read (g ∷ groups) [] h = absurd h

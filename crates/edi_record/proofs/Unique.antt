@@ -1,6 +1,6 @@
 -- A group of zones states one record at most.
 use Rattle.std.proofs.Common.{◌≡◌, cond, List, [], ◌∷◌, map, Option, Some, codes, refl, sym, ap, ◌∙◌}
-use Rattle.edi_line.specs.Entry.{Entry}
+use Rattle.edi_line.specs.ZoneData.{ZoneData}
 use Rattle.edi_record.specs.inner.Texts.{point}
 use Rattle.edi_record.specs.Shapes.{kind_code}
 use Rattle.edi_record.specs.inner.RecordRules.{kind_named}
@@ -26,7 +26,7 @@ kind_again Lnk = refl
 same_kind : (a b : Kind) → kind_code a ≡ kind_code b → a ≡ b
 same_kind a b e = let s : ◌≡◌ {A = Option Kind} (Some a) (Some b) = sym (kind_again a) ∙ ap kind_named e ∙ kind_again b in cc
 
-pub states_one : (group : List Entry) (r q : Record) → ReadsAs group r → ReadsAs group q → r ≡ q
+pub states_one : (group : List ZoneData) (r q : Record) → ReadsAs group r → ReadsAs group q → r ≡ q
 states_one group r q h k =
     let code : kind_code r.kind ≡ kind_code q.kind = cc (h.type, k.type) in
     let kind : r.kind ≡ q.kind = same_kind r.kind q.kind code in

@@ -2,7 +2,7 @@
 use Rattle.std.proofs.Common.{◌≡◌, ℕ, ◌+◌, Bool, true, false, cond, not, ◌&&◌, ◌||◌, ltb, eqb, List, [], ◌∷◌, map, length, filter, one-add, Option, Some, None, codes, refl, sym, ap, ◌∙◌, is_none, is_some}
 use Rattle.std.specs.Prelude.{option_and_then}
 use Rattle.std.specs.List.{list_any}
-use Rattle.edi_line.specs.Entry.{Entry, has_code, first}
+use Rattle.edi_line.specs.ZoneData.{ZoneData, has_code, first}
 use Rattle.edi_line.specs.Refusal.{test}
 use Rattle.edi_line.specs.Zones.{begins_group, ends_group, before_end, groups_of}
 use Rattle.edi_line.specs.Printing.{at_line, lines_of_zone, line_numbered}
@@ -16,42 +16,42 @@ use Rattle.edi_record.specs.inner.Stored.{is_stray, has_stray}
 use Rattle.edi_record.proofs.Loops.{stray_sns_goes_on}
 
 -- zones that lie on no line
-abbrev pub bare : List Entry → List Entry
+abbrev pub bare : List ZoneData → List ZoneData
 bare zones = map (at_line 0) zones
 
-bare_value : (b : Bool) (z : Entry) (xs ys : List Entry) → map (λ (w : Entry). w.value) xs ≡ map (λ (w : Entry). w.value) ys
-    → map (λ (w : Entry). w.value) (cond b (at_line 0 z ∷ xs) xs) ≡ map (λ (w : Entry). w.value) (cond b (z ∷ ys) ys)
+bare_value : (b : Bool) (z : ZoneData) (xs ys : List ZoneData) → map (λ (w : ZoneData). w.value) xs ≡ map (λ (w : ZoneData). w.value) ys
+    → map (λ (w : ZoneData). w.value) (cond b (at_line 0 z ∷ xs) xs) ≡ map (λ (w : ZoneData). w.value) (cond b (z ∷ ys) ys)
 bare_value true z xs ys e = ap (λ t. z.value ∷ t) e
 bare_value false z xs ys e = e
 
-bare_values : (code : List ℕ) (zs : List Entry) → values code (bare zs) ≡ values code zs
+bare_values : (code : List ℕ) (zs : List ZoneData) → values code (bare zs) ≡ values code zs
 bare_values code [] = refl
 bare_values code (z ∷ zs) = bare_value (has_code code z) z (filter (has_code code) (bare zs)) (filter (has_code code) zs) (bare_values code zs)
 
 -- a test that doesn't look at lines
-abbrev IsBlind : (Entry → Bool) → Type 0
-IsBlind p = (z : Entry) → p (at_line 0 z) ≡ p z
+abbrev IsBlind : (ZoneData → Bool) → Type 0
+IsBlind p = (z : ZoneData) → p (at_line 0 z) ≡ p z
 
-bare_count : (p : Entry → Bool) → IsBlind p → (code : List ℕ) (zs : List Entry) → count_until p code (bare zs) ≡ count_until p code zs
+bare_count : (p : ZoneData → Bool) → IsBlind p → (code : List ℕ) (zs : List ZoneData) → count_until p code (bare zs) ≡ count_until p code zs
 bare_count p blind code [] = refl
 bare_count p blind code (z ∷ zs) = rw (blind z, bare_count p blind code zs) refl
 
-bare_repeats : (p q : Entry → Bool) → IsBlind p → IsBlind q → (code : List ℕ) (zs : List Entry) → repeats p q code (bare zs) ≡ repeats p q code zs
+bare_repeats : (p q : ZoneData → Bool) → IsBlind p → IsBlind q → (code : List ℕ) (zs : List ZoneData) → repeats p q code (bare zs) ≡ repeats p q code zs
 bare_repeats p q blind_p blind_q code [] = refl
 bare_repeats p q blind_p blind_q code (z ∷ zs) = rw (blind_p z, bare_count q blind_q code zs, bare_repeats p q blind_p blind_q code zs) refl
 
-abbrev place_made : Bool → Entry → Placed
+abbrev place_made : Bool → ZoneData → Placed
 place_made b z = record { open_before = b; zone = z }
 
-bare_placed : (p : Placed → Bool) → ((b : Bool) (z : Entry) → p (place_made b (at_line 0 z)) ≡ p (place_made b z)) → (b : Bool) (zs : List Entry) → list_any p (placed b (bare zs)) ≡ list_any p (placed b zs)
+bare_placed : (p : Placed → Bool) → ((b : Bool) (z : ZoneData) → p (place_made b (at_line 0 z)) ≡ p (place_made b z)) → (b : Bool) (zs : List ZoneData) → list_any p (placed b (bare zs)) ≡ list_any p (placed b zs)
 unfolding placed
 bare_placed p blind b [] = refl
 bare_placed p blind b (z ∷ zs) = rw (blind b z, bare_placed p blind (is_open_after b z) zs) refl
 
-sns_here : (z : Entry) (zs : List Entry) → points_at z ≡ false → has_code (codes "SNS") z ≡ true → has_stray (z ∷ zs) ≡ true
+sns_here : (z : ZoneData) (zs : List ZoneData) → points_at z ≡ false → has_code (codes "SNS") z ≡ true → has_stray (z ∷ zs) ≡ true
 sns_here z zs e f = rw (e, one-add, f) refl
 
-bare_stray : (zs : List Entry) → has_stray (bare zs) ≡ has_stray zs
+bare_stray : (zs : List ZoneData) → has_stray (bare zs) ≡ has_stray zs
 bare_stray [] = refl
 bare_stray (z ∷ zs) = go (points_at z) refl (has_code (codes "SNS") z) refl (bare_stray zs)
   where
@@ -62,10 +62,10 @@ bare_stray (z ∷ zs) = go (points_at z) refl (has_code (codes "SNS") z) refl (b
 
 -- ---- each rule
 
-bare_kind : (g : List Entry) → kind_in (bare g) ≡ kind_in g
+bare_kind : (g : List ZoneData) → kind_in (bare g) ≡ kind_in g
 bare_kind g = ap (λ vs. option_and_then kind_named (first vs)) (bare_values (codes "RTY") g)
 
-bare_in_kind : (t u : Kind → Bool) (g : List Entry) → ((kind : Kind) → t kind ≡ u kind) → in_kind t (bare g) ≡ in_kind u g
+bare_in_kind : (t u : Kind → Bool) (g : List ZoneData) → ((kind : Kind) → t kind ≡ u kind) → in_kind t (bare g) ≡ in_kind u g
 bare_in_kind t u g same = go (kind_in g) refl
   where
     go : (o : Option Kind) → kind_in g ≡ o → in_kind t (bare g) ≡ in_kind u g
@@ -78,17 +78,17 @@ same_or a b c d p q = rw (p, q) refl
 same_and : (a b c d : Bool) → a ≡ c → b ≡ d → (a && b) ≡ (c && d)
 same_and a b c d p q = rw (p, q) refl
 
-bare_counts : (counting counted : List ℕ) (g : List Entry) → counts_wrong counting counted (bare g) ≡ counts_wrong counting counted g
+bare_counts : (counting counted : List ℕ) (g : List ZoneData) → counts_wrong counting counted (bare g) ≡ counts_wrong counting counted g
 bare_counts counting counted g =
     ap (λ vs. not (counts_right vs (length (values counted (bare g))))) (bare_values counting g) ∙ ap (λ vs. not (counts_right (values counting g) (length vs))) (bare_values counted g)
 
-bare_attribute : (g : List Entry) → has_bad_attribute (bare g) ≡ has_bad_attribute g
+bare_attribute : (g : List ZoneData) → has_bad_attribute (bare g) ≡ has_bad_attribute g
 bare_attribute g =
     same_or (some_no_pointer (values (codes "ATP") (bare g))) _ (some_no_pointer (values (codes "ATP") g)) _ (ap some_no_pointer (bare_values (codes "ATP") g))
     (same_or (list_any is_stray (placed false (bare g))) _ (list_any is_stray (placed false g)) _ (bare_placed is_stray (λ b z. refl) false g)
     (bare_repeats opens (λ z. opens z || closes z) (λ z. refl) (λ z. refl) (codes "TEX") g))
 
-bare_wrong_count : (g : List Entry) → has_wrong_count (bare g) ≡ has_wrong_count g
+bare_wrong_count : (g : List ZoneData) → has_wrong_count (bare g) ≡ has_wrong_count g
 bare_wrong_count g =
     same_or (counts_wrong (codes "ATC") (codes "ATP") (bare g)) _ (counts_wrong (codes "ATC") (codes "ATP") g) _ (bare_counts (codes "ATC") (codes "ATP") g)
     (same_or (in_kind is_arc (bare g) && counts_wrong (codes "PTC") (codes "COR") (bare g)) _ (in_kind is_arc g && counts_wrong (codes "PTC") (codes "COR") g) _
@@ -98,7 +98,7 @@ bare_wrong_count g =
 no_position : List (List ℕ) → Bool
 no_position texts = list_any (λ text. is_none (point text)) texts
 
-bare_point : (g : List Entry) → has_bad_point (bare g) ≡ has_bad_point g
+bare_point : (g : List ZoneData) → has_bad_point (bare g) ≡ has_bad_point g
 unfolding no_position
 bare_point g =
     same_or (in_kind has_points (bare g) && no_position (values (codes "COR") (bare g))) _ (in_kind has_points g && no_position (values (codes "COR") g)) _
@@ -107,14 +107,14 @@ bare_point g =
     (same_and (in_kind is_node (bare g)) _ (in_kind is_node g) _ (bare_in_kind is_node is_node g (λ kind. refl)) (ap (λ vs. not (eqb (length vs) 1)) (bare_values (codes "COR") g)))
     (same_and (in_kind is_arc (bare g)) _ (in_kind is_arc g) _ (bare_in_kind is_arc is_arc g (λ kind. refl)) (ap (λ vs. ltb (length vs) 2) (bare_values (codes "COR") g))))
 
-bare_end : (g : List Entry) → has_bad_end (bare g) ≡ has_bad_end g
+bare_end : (g : List ZoneData) → has_bad_end (bare g) ≡ has_bad_end g
 bare_end g =
     same_and (in_kind is_link (bare g)) _ (in_kind is_link g) _ (bare_in_kind is_link is_link g (λ kind. refl))
     (same_or (some_no_pointer (values (codes "FTP") (bare g))) _ (some_no_pointer (values (codes "FTP") g)) _ (ap some_no_pointer (bare_values (codes "FTP") g))
     (same_or (ltb (length (values (codes "FTP") (bare g))) 2) _ (ltb (length (values (codes "FTP") g)) 2) _ (ap (λ vs. ltb (length vs) 2) (bare_values (codes "FTP") g))
     (same_or (has_stray (bare g)) _ (has_stray g) _ (bare_stray g) (bare_repeats points_at points_at (λ z. refl) (λ z. refl) (codes "SNS") g))))
 
-bare_pointer : (g : List Entry) → has_unknown_pointer (bare g) ≡ has_unknown_pointer g
+bare_pointer : (g : List ZoneData) → has_unknown_pointer (bare g) ≡ has_unknown_pointer g
 bare_pointer g =
     bare_in_kind (λ kind. list_any (is_unknown_pointer kind) (placed false (bare g))) (λ kind. list_any (is_unknown_pointer kind) (placed false g)) g
     (λ kind. bare_placed (is_unknown_pointer kind) (λ b z. refl) false g)
@@ -125,7 +125,7 @@ eight_tests : (a b c d e f g h i j k l m n o p : Bool) → a ≡ i → b ≡ j �
 eight_tests a b c d e f g h i j k l m n o p q r s t u v w x = rw (q, r, s, t, u, v, w, x) refl
 
 -- The rules are the same wherever the zones lie.
-pub bare_tests : (g : List Entry) → record_tests (bare g) ≡ record_tests g
+pub bare_tests : (g : List ZoneData) → record_tests (bare g) ≡ record_tests g
 bare_tests g =
     eight_tests (has_no_kind (bare g)) (has_no_identifier (bare g)) (has_no_class (bare g)) (has_bad_attribute (bare g)) (has_wrong_count (bare g)) (has_bad_point (bare g)) (has_bad_end (bare g)) (has_unknown_pointer (bare g))
     (has_no_kind g) (has_no_identifier g) (has_no_class g) (has_bad_attribute g) (has_wrong_count g) (has_bad_point g) (has_bad_end g) (has_unknown_pointer g)
@@ -136,7 +136,7 @@ bare_tests g =
 
 -- ---- groups
 
-bare_before : (zs : List Entry) → before_end (bare zs) ≡ bare (before_end zs)
+bare_before : (zs : List ZoneData) → before_end (bare zs) ≡ bare (before_end zs)
 bare_before [] = refl
 bare_before (z ∷ zs) = go (ends_group z) (bare_before zs)
   where
@@ -144,7 +144,7 @@ bare_before (z ∷ zs) = go (ends_group z) (bare_before zs)
     go true e = refl
     go false e = ap (λ t. at_line 0 z ∷ t) e
 
-bare_groups : (zs : List Entry) → groups_of (bare zs) ≡ map bare (groups_of zs)
+bare_groups : (zs : List ZoneData) → groups_of (bare zs) ≡ map bare (groups_of zs)
 bare_groups [] = refl
 bare_groups (z ∷ zs) = go (begins_group z) (bare_groups zs)
   where
@@ -152,10 +152,10 @@ bare_groups (z ∷ zs) = go (begins_group z) (bare_groups zs)
     go true e = ap (λ t. (at_line 0 z ∷ t) ∷ groups_of (bare zs)) (bare_before zs) ∙ ap (λ t. bare (z ∷ before_end zs) ∷ t) e
     go false e = e
 
-bare_numbered : (n : ℕ) (zs : List Entry) → bare (line_numbered n zs) ≡ bare zs
+bare_numbered : (n : ℕ) (zs : List ZoneData) → bare (line_numbered n zs) ≡ bare zs
 bare_numbered n [] = refl
 bare_numbered n (z ∷ zs) = ap (λ t. at_line 0 z ∷ t) (bare_numbered (n + length (lines_of_zone z)) zs)
 
 -- the groups of line_numbered zones are those of the zones, but for the lines
-pub same_groups : (n : ℕ) (zs : List Entry) → map bare (groups_of (line_numbered n zs)) ≡ map bare (groups_of zs)
+pub same_groups : (n : ℕ) (zs : List ZoneData) → map bare (groups_of (line_numbered n zs)) ≡ map bare (groups_of zs)
 same_groups n zs = sym (bare_groups (line_numbered n zs)) ∙ ap groups_of (bare_numbered n zs) ∙ bare_groups zs

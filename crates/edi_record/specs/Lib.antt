@@ -1,4 +1,4 @@
-pub mod Beside
+pub mod Observers
 pub mod Bytes
 pub mod Texts
 pub mod Shapes

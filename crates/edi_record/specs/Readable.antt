@@ -1,7 +1,7 @@
 -- What was read can be printed.
 use Rattle.std.specs.Prelude.{ℕ, ◌<◌, ◌^◌, List, length, IfSome}
 use Rattle.std.specs.List.{AllByRecursion}
-use Rattle.edi_line.specs.Entry.{Entry}
+use Rattle.edi_line.specs.ZoneData.{ZoneData}
 use Rattle.edi_line.specs.LineRules.{BreaksLineRule, IsZonesOf}
 use Rattle.edi_line.specs.Refusal.{IsUnbroken}
 use Rattle.edi_line.specs.Printing.{IsOneLine}
@@ -20,6 +20,6 @@ pub record IsPrintableSheet (sheet : Sheet) : Type 0 where
 -- The sheet that a file states can be printed, where the file breaks no rule of lines and of records.
 abbrev pub ReadSheetsArePrintable : Type 0
 ReadSheetsArePrintable =
-    (bytes : List ℕ) (zones : List Entry) (sheet : Sheet) → length bytes < 2 ^ 64 → IsZonesOf bytes zones
+    (bytes : List ℕ) (zones : List ZoneData) (sheet : Sheet) → length bytes < 2 ^ 64 → IsZonesOf bytes zones
     → IsUnbroken (BreaksLineRule bytes)
     → StatesSheet zones sheet → IsUnbroken (BreaksRecordRule zones) → IsPrintableSheet sheet

@@ -3,7 +3,7 @@
 use Rattle.std.specs.Prelude.{◌≡◌, ℕ, Bool, true, false, List, [], ◌∷◌, ◌++◌, map, length, flat_map, codes, Option, None, option_map, option_to_list, ◌<◌, ◌≤◌, ◌^◌, not, IfSome, bytes_eq}
 use Rattle.std.specs.List.{AllByRecursion, AllZip, list_any}
 use Rattle.edi_line.specs.Zones.{IsZonesIn, groups_of, charset_of}
-use Rattle.edi_line.specs.Entry.{Entry}
+use Rattle.edi_line.specs.ZoneData.{ZoneData}
 use Rattle.edi_line.specs.Spelling.{is_printable, Reading, AreReadings}
 use Rattle.edi_line.specs.Number.{size_of, MOST}
 use Rattle.edi_line.specs.inner.Number.{number}
@@ -31,35 +31,35 @@ pub record Letters : Type 0 where
   pub letter : Name → ℕ
   pub is_number : Name → Bool
 
-unfoldable pub zones_of_attribute : Letters → Attribute → List Entry
+unfoldable pub zones_of_attribute : Letters → Attribute → List ZoneData
 zones_of_attribute s a =
     attribute_zone a.atp
     ∷ map set_zone (option_to_list a.tex)
     ++ value_zone (s.letter a.atp) (value_of (s.is_number a.atp) a.atv) ∷ []
 
-unfoldable pub zones_of_end : End → List Entry
+unfoldable pub zones_of_end : End → List ZoneData
 zones_of_end e = target_zone e.target ∷ map sns_zone (option_to_list e.sns)
 
 -- the count of points or ends, where there is one
-abbrev pub count_zones : Kind → ℕ → ℕ → List Entry
+abbrev pub count_zones : Kind → ℕ → ℕ → List ZoneData
 count_zones Pno points ends = []
 count_zones Par points ends = point_count_zone points ∷ []
 count_zones Pfe points ends = []
 count_zones Fea points ends = []
 count_zones Lnk points ends = end_count_zone ends ∷ []
 
-unfoldable pub zones_of_body : Kind → List Point → List End → List Entry
+unfoldable pub zones_of_body : Kind → List Point → List End → List ZoneData
 zones_of_body kind points ends =
     count_zones kind (length points) (length ends) ++ (map point_zone points ++ flat_map zones_of_end ends)
 
-unfoldable pub zones_of_record : Letters → Record → List Entry
+unfoldable pub zones_of_record : Letters → Record → List ZoneData
 zones_of_record s r =
     type_zone r.kind ∷ identifier_zone r.rid ∷ class_zone r.scp
     ∷ (zones_of_body r.kind r.points r.ends
     ++ (attribute_count_zone (length r.attributes)
     ∷ (flat_map (zones_of_attribute s) r.attributes ++ map extra_zone r.extras)))
 
-abbrev pub zones_of_sheet : Letters → Option (List ℕ) → List Record → List Entry
+abbrev pub zones_of_sheet : Letters → Option (List ℕ) → List Record → List ZoneData
 zones_of_sheet s cse rs =
     begin_zone ∷ (map cse_zone (option_to_list cse) ++ (flat_map (zones_of_record s) rs ++ end_zone ∷ []))
 
@@ -165,10 +165,10 @@ HasPrintableLetters s = (n : Name) → is_printable (s.letter n) ≡ true
 -- The records_layout of records states them, with their ends and values as they are written.
 abbrev pub LayoutIsReadAgain : Type 0
 LayoutIsReadAgain =
-    (s : Letters) (cse : Option (List ℕ)) (rs : List Record) (readings : List Reading) (zones : List Entry)
+    (s : Letters) (cse : Option (List ℕ)) (rs : List Record) (readings : List Reading) (zones : List ZoneData)
     → AllByRecursion IsPrintable (zones_of_sheet s cse rs) → AllByRecursion IsRecord rs
     → AreReadings (records_layout s cse rs) readings → IsZonesIn readings zones
-    → (option_map (λ (e : Entry). e.value) (charset_of zones) ≡ cse)
+    → (option_map (λ (e : ZoneData). e.value) (charset_of zones) ≡ cse)
     × AllZip States (groups_of zones) (map (settled_record s) rs)
 
 -- what holds of a record that was read from zones which break no rule of records

@@ -1,7 +1,7 @@
 -- The rules of records.
 use Rattle.std.specs.Prelude.{◌≡◌, ◌≢◌, ◌⊎◌, ℕ, ◌+◌, ◌<◌, Bool, true, false, not, ◌&&◌, nat_le, List, [], ◌∷◌, ◌++◌, length, Some, codes, Any}
 use Rattle.std.specs.List.{list_any}
-use Rattle.edi_line.specs.Entry.{Entry, has_code, first}
+use Rattle.edi_line.specs.ZoneData.{ZoneData, has_code, first}
 use Rattle.edi_line.specs.Zones.{groups_of}
 use Rattle.edi_record.specs.Bytes.{letter_p}
 use Rattle.edi_record.specs.Records.{values, has_points, IsSince, closes, IsOpen, points_at, IsExtraAt}
@@ -22,11 +22,11 @@ abbrev pub is_identifier : List ℕ → Bool
 is_identifier text = nat_le 1 (length text) && (nat_le (length text) 255 && not (list_any is_semicolon text))
 
 -- not exactly one RID in form
-abbrev pub has_no_identifier : List Entry → Bool
+abbrev pub has_no_identifier : List ZoneData → Bool
 has_no_identifier group = not (just_one is_identifier (values (codes "RID") group))
 
 -- the first RTY names the kind
-abbrev pub IsOfKind : List Entry → Kind → Type 0
+abbrev pub IsOfKind : List ZoneData → Kind → Type 0
 IsOfKind group kind = first (values (codes "RTY") group) ≡ Some (kind_code kind)
 
 -- the text is no pointer
@@ -37,10 +37,10 @@ IsNoPointer text = (p : PointerText) → ¬ (IsPointer text p)
 abbrev pub Counts : List (List ℕ) → ℕ → Type 0
 Counts texts n = (texts ≡ []) ⊎ ((text : List ℕ) × (texts ≡ text ∷ []) × IsCount text n)
 
-module _ (group : List Entry) where
+module _ (group : List ZoneData) where
   -- a zone of the group, behind these
-  abbrev pub IsIn : List Entry → Entry → Type 0
-  IsIn front z = (behind : List Entry) × (group ≡ front ++ z ∷ behind)
+  abbrev pub IsIn : List ZoneData → ZoneData → Type 0
+  IsIn front z = (behind : List ZoneData) × (group ≡ front ++ z ∷ behind)
 
   -- 201: the type isn't one of the five
   abbrev pub LacksKind : Type 0
@@ -53,9 +53,9 @@ module _ (group : List Entry) where
   -- 204: an ATP is no pointer; an ATV where no attribute is open; a second TEX in one open attribute
   pub data HasBadAttribute : Type 0 where
     no_pointer : Any IsNoPointer (values (codes "ATP") group) → HasBadAttribute
-    stray_value : (front : List Entry) (z : Entry) → IsIn front z → closes z ≡ true
-        → ((since : List Entry) → ¬ (IsOpen front since)) → HasBadAttribute
-    second_set : (front since : List Entry) (z : Entry) → IsIn front z → has_code (codes "TEX") z ≡ true
+    stray_value : (front : List ZoneData) (z : ZoneData) → IsIn front z → closes z ≡ true
+        → ((since : List ZoneData) → ¬ (IsOpen front since)) → HasBadAttribute
+    second_set : (front since : List ZoneData) (z : ZoneData) → IsIn front z → has_code (codes "TEX") z ≡ true
         → IsOpen front since → list_any (has_code (codes "TEX")) since ≡ true → HasBadAttribute
 
   -- the zones with one code aren't as many as the zone with the other says
@@ -79,9 +79,9 @@ module _ (group : List Entry) where
   pub data HasBadEnd : Type 0 where
     no_pointer : Any IsNoPointer (values (codes "FTP") group) → HasBadEnd
     few : length (values (codes "FTP") group) < 2 → HasBadEnd
-    stray_sense : (front : List Entry) (z : Entry) → IsIn front z → has_code (codes "SNS") z ≡ true
+    stray_sense : (front : List ZoneData) (z : ZoneData) → IsIn front z → has_code (codes "SNS") z ≡ true
         → list_any points_at front ≡ false → HasBadEnd
-    second_sense : (front since : List Entry) (z : Entry) → IsIn front z → has_code (codes "SNS") z ≡ true
+    second_sense : (front since : List ZoneData) (z : ZoneData) → IsIn front z → has_code (codes "SNS") z ≡ true
         → IsSince points_at points_at front since
         → list_any (has_code (codes "SNS")) since ≡ true → HasBadEnd
 
@@ -89,8 +89,8 @@ module _ (group : List Entry) where
   pub record HasUnknownPointer : Type 0 where
     pub kind : Kind
     pub is_kind : IsOfKind group kind
-    pub front : List Entry
-    pub zone : Entry
+    pub front : List ZoneData
+    pub zone : ZoneData
     pub is_in : IsIn front zone
     pub extra : IsExtraAt kind front zone
     pub format : zone.format ≡ letter_p
@@ -108,10 +108,10 @@ module _ (group : List Entry) where
     unknown_pointer : rule ≡ 208 → HasUnknownPointer → BreaksGroupRule rule
 
 -- the record at this place breaks the rule
-pub record BreaksRecordRule (zones : List Entry) (rule place : ℕ) : Type 0 where
-  pub before : List (List Entry)
-  pub group : List Entry
-  pub after : List (List Entry)
+pub record BreaksRecordRule (zones : List ZoneData) (rule place : ℕ) : Type 0 where
+  pub before : List (List ZoneData)
+  pub group : List ZoneData
+  pub after : List (List ZoneData)
   pub cut : groups_of zones ≡ before ++ group ∷ after
   pub place_is : place ≡ length before + 1
   pub breaks : BreaksGroupRule group rule

@@ -1,8 +1,8 @@
 -- What a group of zones states.
 use Rattle.std.specs.Prelude.{◌≡◌, ℕ, Bool, true, false, ◌||◌, List, [], ◌∷◌, ◌++◌, map, filter, ◌==◌, if◌then◌else◌, codes, bytes_eq, Option, Some, None, option_map, unwrap_or, ℤ}
 use Rattle.std.specs.List.{list_any, before_first, AllZip}
-pub use Rattle.edi_line.specs.Entry.{first}
-use Rattle.edi_line.specs.Entry.{Entry, has_code}
+pub use Rattle.edi_line.specs.ZoneData.{first}
+use Rattle.edi_line.specs.ZoneData.{ZoneData, has_code}
 use Rattle.edi_line.specs.Made.{AreMadeFrom}
 use Rattle.edi_line.specs.Number.{IsNumberText}
 use Rattle.edi_line.specs.Zones.{charset_of, groups_of, begins_group, before_end}
@@ -36,13 +36,13 @@ is_link Fea = false
 is_link Lnk = true
 
 -- the values of the zones with a code, in their order
-abbrev pub values : List ℕ → List Entry → List (List ℕ)
+abbrev pub values : List ℕ → List ZoneData → List (List ℕ)
 values code group = map (λ z. z.value) (filter (has_code code) group)
 
 -- behind the last zone that begins a stretch these have come, none of which ends it
-pub record IsSince (begins ends : Entry → Bool) (front since : List Entry) : Type 0 where
-  pub before : List Entry
-  pub head : Entry
+pub record IsSince (begins ends : ZoneData → Bool) (front since : List ZoneData) : Type 0 where
+  pub before : List ZoneData
+  pub head : ZoneData
   pub cut : front ≡ before ++ head ∷ since
   pub begun : begins head ≡ true
   pub goes_on : list_any ends since ≡ false
@@ -50,19 +50,19 @@ pub record IsSince (begins ends : Entry → Bool) (front since : List Entry) : T
 -- ---- attributes
 
 -- a zone that opens an attribute
-abbrev pub opens : Entry → Bool
+abbrev pub opens : ZoneData → Bool
 opens z = has_code (codes "ATP") z
 
 -- a zone that closes it
-abbrev pub closes : Entry → Bool
+abbrev pub closes : ZoneData → Bool
 closes z = has_code (codes "ATV") z
 
 -- an attribute is open behind these zones, and of them these belong to it: no ATP and no ATV came behind its ATP
-abbrev pub IsOpen : List Entry → List Entry → Type 0
+abbrev pub IsOpen : List ZoneData → List ZoneData → Type 0
 IsOpen front since = IsSince opens (λ z. opens z || closes z) front since
 
 -- the attribute of an ATP: with the first TEX and the first ATV before the next ATP, the TEX not behind that ATV
-pub record IsAttributeAt (front : List Entry) (z : Entry) (behind : List Entry) (a : Attribute) : Type 0 where
+pub record IsAttributeAt (front : List ZoneData) (z : ZoneData) (behind : List ZoneData) (a : Attribute) : Type 0 where
   pub class : PointsTo z.value a.atp
   pub set : a.tex ≡ first (values (codes "TEX") (before_first closes (before_first opens behind)))
   pub value : a.atv ≡ unwrap_or (first (values (codes "ATV") (before_first opens behind))) []
@@ -70,11 +70,11 @@ pub record IsAttributeAt (front : List Entry) (z : Entry) (behind : List Entry) 
 -- ---- ends
 
 -- a zone that begins an end
-abbrev pub points_at : Entry → Bool
+abbrev pub points_at : ZoneData → Bool
 points_at z = has_code (codes "FTP") z
 
 -- the end of an FTP: with the first SNS before the next FTP
-pub record IsEndAt (front : List Entry) (z : Entry) (behind : List Entry) (e : End) : Type 0 where
+pub record IsEndAt (front : List ZoneData) (z : ZoneData) (behind : List ZoneData) (e : End) : Type 0 where
   pub names : IsPointer z.value (record { lot = e.lot; subset = e.subset; rty = e.target.rty; rid = e.target.rid })
   pub sns : e.sns ≡ first (values (codes "SNS") (before_first points_at behind))
 
@@ -98,9 +98,9 @@ abbrev pub is_known : Kind → List ℕ → Bool
 is_known kind code = list_any (bytes_eq code) known_anywhere || list_any (bytes_eq code) (known_in kind)
 
 -- a zone whose code isn't known behind these zones: TEX is known where an attribute is open
-pub record IsExtraAt (kind : Kind) (front : List Entry) (z : Entry) : Type 0 where
+pub record IsExtraAt (kind : Kind) (front : List ZoneData) (z : ZoneData) : Type 0 where
   pub unknown : is_known kind z.code ≡ false
-  pub no_set : (since : List Entry) → IsOpen front since → has_code (codes "TEX") z ≡ false
+  pub no_set : (since : List ZoneData) → IsOpen front since → has_code (codes "TEX") z ≡ false
 
 -- a number where the text may be one and is one, and else its bytes
 abbrev pub IsValueOf : Type 0 → List ℕ → Value → Type 0
@@ -112,7 +112,7 @@ abbrev pub may_be_number : ℕ → Bool
 may_be_number format = (format == letter_n) || (format == letter_r)
 
 -- the extra that a zone states
-pub record IsExtraOf (front : List Entry) (z : Entry) (behind : List Entry) (e : Extra) : Type 0 where
+pub record IsExtraOf (front : List ZoneData) (z : ZoneData) (behind : List ZoneData) (e : Extra) : Type 0 where
   pub code : e.code ≡ z.code
   pub nature : e.nature ≡ z.nature
   pub format : e.format ≡ z.format
@@ -121,7 +121,7 @@ pub record IsExtraOf (front : List Entry) (z : Entry) (behind : List Entry) (e :
 -- ---- records
 
 -- a group of zones states a record
-pub record States (group : List Entry) (r : Record) : Type 0 where
+pub record States (group : List ZoneData) (r : Record) : Type 0 where
   pub type : values (codes "RTY") group ≡ kind_code r.kind ∷ []
   pub rid : values (codes "RID") group ≡ r.rid ∷ []
   pub scp : (text : List ℕ) × (values (codes "SCP") group ≡ text ∷ []) × PointsTo text r.scp
@@ -131,11 +131,11 @@ pub record States (group : List Entry) (r : Record) : Type 0 where
   pub extras : AreMadeFrom (IsExtraAt r.kind) IsExtraOf [] group r.extras
 
 -- the zones of a file state the records of a sheet, in their order
-pub record StatesSheet (zones : List Entry) (sheet : Sheet) : Type 0 where
+pub record StatesSheet (zones : List ZoneData) (sheet : Sheet) : Type 0 where
   pub cse : sheet.cse ≡ option_map (λ e. e.value) (charset_of zones)
   pub records : AllZip States (groups_of zones) sheet.list
 
 -- the zones of the record that begins with the first of these, if one does
-abbrev pub group_at : List Entry → Option (List Entry)
+abbrev pub group_at : List ZoneData → Option (List ZoneData)
 group_at [] = None
 group_at (z ∷ zs) = if begins_group z then Some (z ∷ before_end zs) else None

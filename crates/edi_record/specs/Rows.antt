@@ -1,7 +1,7 @@
 -- Known files, and what they state.
 use Rattle.std.specs.Prelude.{ℕ, pos, List, [], ◌∷◌, ◌++◌, None, codes}
 use Rattle.edi_line.specs.Bytes.{line_feed}
-use Rattle.edi_line.specs.Entry.{Entry}
+use Rattle.edi_line.specs.ZoneData.{ZoneData}
 use Rattle.edi_line.specs.Printing.{at_line, zone_headed}
 use Rattle.edi_record.specs.declared.record.Kind.TheVariants.{Pno}
 use Rattle.edi_record.specs.declared.record.Record.{Record}
@@ -29,7 +29,7 @@ the_node = record {
 }
 
 -- the zones of that node
-abbrev pub node_group : List Entry
+abbrev pub node_group : List ZoneData
 node_group =
     at_line 3 (zone_headed (codes "RTYSA") (codes "PNO"))
     ∷ at_line 4 (zone_headed (codes "RIDSA") (codes "Noeud_1"))

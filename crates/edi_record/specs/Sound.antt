@@ -3,7 +3,7 @@ use Rattle.std.specs.Prelude.{ℕ, ◌≤◌, List, map, length, Option, option_
 use Rattle.std.specs.List.{AllByRecursion}
 use Rattle.edi_line.specs.Zones.{IsFileOf}
 use Rattle.edi_line.specs.Bytes.{most_records}
-use Rattle.edi_line.specs.Entry.{Entry}
+use Rattle.edi_line.specs.ZoneData.{ZoneData}
 use Rattle.edi_line.specs.LineRules.{BreaksLineRule, IsZonesOf}
 use Rattle.edi_line.specs.Refusal.{IsUnbroken}
 use Rattle.edi_line.specs.Printing.{IsOneLine}
@@ -15,7 +15,7 @@ use Rattle.edi_record.specs.declared.record.Record.{Record}
 -- the zones of these records are those of a file, and its bytes break no rule of lines and of records
 pub record IsSoundFile (s : Letters) (cse : Option (List ℕ)) (rs : List Record) : Type 0 where
   pub file : IsFileOf (zones_of_sheet s cse rs) (option_map cse_zone cse) (map (zones_of_record s) rs)
-  pub zones : List Entry
+  pub zones : List ZoneData
   pub are_zones : IsZonesOf (records_layout s cse rs) zones
   pub lines : IsUnbroken (BreaksLineRule (records_layout s cse rs))
   pub records : IsUnbroken (BreaksRecordRule zones)

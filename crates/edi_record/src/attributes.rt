@@ -1,7 +1,7 @@
 //! The attributes of a record.
 
 ghost use Rattle.std.specs.Prelude.{◌≡◌, ℕ, List, [], ◌++◌, codes, map, true, false, Some, None, option_map, is_some, IfOk, IfErr, OnOk};
-ghost use Rattle.edi_line.specs.Entry.{Entry};
+ghost use Rattle.edi_line.specs.ZoneData.{ZoneData};
 ghost use Rattle.edi_record.specs.inner.Records.{attributes};
 ghost use Rattle.edi_record.specs.inner.RecordRules.{has_bad_attribute};
 ghost use Rattle.edi_record.specs.inner.RecordRefusal.{IsBreachOf};
@@ -75,7 +75,7 @@ pub(crate) struct Attributes<'a> {
 impl<'a> Attributes<'a> {
     /// No attributes have come.
     pub(crate) fn new() -> Attributes<'a>
-        ensures keeps { (group : List Entry) → StoresAttributes (kept_attributes result []) group group }
+        ensures keeps { (group : List ZoneData) → StoresAttributes (kept_attributes result []) group group }
         ensures closed { is_some result.opened ≡ false }
     {
         Attributes {
@@ -173,14 +173,14 @@ impl<'a> Attributes<'a> {
         texts: &mut LongTexts,
         done: &mut Vec<Attribute>,
     ) -> Result<(), GroupFault>
-        ensures states { OnOk result ((group : List Entry)
+        ensures states { OnOk result ((group : List ZoneData)
             → StoresAttributes (kept_attributes self.old done.old.items) [] group
             → attributes group ≡ map Some done.new.items) }
         ensures unbroken { OnOk result (self.old.is_broken ≡ false) }
-        ensures sound { OnOk result ((group : List Entry)
+        ensures sound { OnOk result ((group : List ZoneData)
             → StoresAttributes (kept_attributes self.old done.old.items) [] group
             → has_bad_attribute group ≡ false) }
-        ensures breach { IfErr result (λ fault. (group : List Entry)
+        ensures breach { IfErr result (λ fault. (group : List ZoneData)
             → StoresAttributes (kept_attributes self.old done.old.items) [] group
             → IsBreachOf 204 (has_bad_attribute group) fault) }
     {

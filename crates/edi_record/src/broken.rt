@@ -2,7 +2,7 @@
 
 ghost use Rattle.std.specs.Prelude.{◌≡◌, ◌∷◌, [], ◌++◌, List, IfOk, IfErr, OnOk};
 ghost use Rattle.edi_line.specs.AllBroken.{AreAllBroken};
-ghost use Rattle.edi_line.specs.Entry.{Entry, entries};
+ghost use Rattle.edi_line.specs.ZoneData.{ZoneData, entries};
 ghost use Rattle.edi_line.specs.FileBytes.{file_bytes};
 ghost use Rattle.edi_line.specs.LineRules.{BreaksLineRule, IsZonesOf};
 ghost use Rattle.edi_line.specs.Refusal.{IsUnbroken, IsLineRefusal};
@@ -56,7 +56,7 @@ impl BrokenGroups {
 
     /// Takes the zones of the next record.
     fn take_group(&mut self, group: &[Zone<'_>]) -> Result<(), AllocError>
-        ensures { OnOk result ((groups : List (List Entry)) → HoldsGroups groups self.old
+        ensures { OnOk result ((groups : List (List ZoneData)) → HoldsGroups groups self.old
             → HoldsGroups (groups ++ entries group.now ∷ []) self.new) }
     {
         self.place = self.place.saturating_add(1);
@@ -78,7 +78,7 @@ impl GroupOut for BrokenGroups {
 /// and no other (docs/FORMAT.md, "The order of the rules"). The file is let go as it is read, and the zones of one record
 /// alone are in memory at a time.
 pub fn broken_records_from(alloc: Global, file: FileBytes<'_>) -> Result<Vec<BrokenRule>, LineFault>
-    ensures records { IfOk result (λ list. (zones : List Entry) × IsZonesOf (file_bytes file.entry) zones
+    ensures records { IfOk result (λ list. (zones : List ZoneData) × IsZonesOf (file_bytes file.entry) zones
         × AreAllBroken (BreaksRecordRule zones) list.items) }
     ensures lines { OnOk result (IsUnbroken (BreaksLineRule (file_bytes file.entry))) }
     ensures least { IfErr result (IsLineRefusal (BreaksLineRule (file_bytes file.entry))) }

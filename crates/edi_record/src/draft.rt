@@ -1,7 +1,7 @@
 //! What is stored of a record whose zones are still coming.
 
 ghost use Rattle.std.specs.Prelude.{◌≡◌, ℕ, ◌+◌, ◌<◌, ◌≤◌, ◌^◌, ◌&&◌, ◌||◌, not, true, false, List, [], ◌∷◌, map, length, codes, Some, None, is_some, MatchOption, IfOk, IfErr, OnOk};
-ghost use Rattle.edi_line.specs.Entry.{Entry, entry};
+ghost use Rattle.edi_line.specs.ZoneData.{ZoneData, entry};
 ghost use Rattle.edi_line.specs.inner.Refusal.{first_broken};
 ghost use Rattle.edi_record.specs.inner.Texts.{pointer, class_of};
 ghost use Rattle.edi_record.specs.Shapes.{is_in_shape};
@@ -50,7 +50,7 @@ pub(crate) struct Draft<'a> {
 impl<'a> Draft<'a> {
     /// Nothing of a record of this type has come but its type.
     pub(crate) fn new(kind: Kind) -> Draft<'a>
-        ensures keeps { (parts : Parts) (group : List Entry) → AreEmpty parts
+        ensures keeps { (parts : Parts) (group : List ZoneData) → AreEmpty parts
             → StoresRecord (kept result parts) group group }
         ensures kind { result.kind ≡ kind }
         ensures counted { result.counted ≡ 0 }
@@ -79,7 +79,7 @@ impl<'a> Draft<'a> {
         requires { self.old.counted + 1 < 2 ^ 64 }
         ensures kind { OnOk result (self.new.kind ≡ self.old.kind) }
         ensures counted { OnOk result (self.new.counted ≤ self.old.counted + 1) }
-        ensures keeps { OnOk result ((left group : List Entry)
+        ensures keeps { OnOk result ((left group : List ZoneData)
             → StoresRecord (kept self.old parts.old) (entry zone.entry.now ∷ left) group
             → StoresRecord (kept self.new parts.new) left group) }
     {
@@ -123,13 +123,13 @@ impl<'a> Draft<'a> {
         alloc: Global,
         parts: &mut RecordParts,
     ) -> Result<RecordHead, GroupFault>
-        ensures states { IfOk result (λ h. (group : List Entry) → length (values (codes "RTY") group) ≡ 1
+        ensures states { IfOk result (λ h. (group : List ZoneData) → length (values (codes "RTY") group) ≡ 1
             → kind_in group ≡ Some self.old.kind → StoresRecord (kept self.old parts.old) [] group
             → ReadsAs group (whole h parts.new)) }
         ensures shape { IfOk result (λ h. is_in_shape (whole h parts.new) ≡ true) }
-        ensures sound { OnOk result ((group : List Entry) → kind_in group ≡ Some self.old.kind
+        ensures sound { OnOk result ((group : List ZoneData) → kind_in group ≡ Some self.old.kind
             → StoresRecord (kept self.old parts.old) [] group → first_broken (record_tests group) ≡ None) }
-        ensures least { IfErr result (λ fault. (group : List Entry) → kind_in group ≡ Some self.old.kind
+        ensures least { IfErr result (λ fault. (group : List ZoneData) → kind_in group ≡ Some self.old.kind
             → StoresRecord (kept self.old parts.old) [] group → IsGroupRefusal group fault) }
     {
         let Some(rid) = identifier_of(self.identifier) else {

@@ -1,7 +1,7 @@
 //! The ends of a link.
 
 ghost use Rattle.std.specs.Prelude.{◌≡◌, ℕ, List, [], ◌++◌, ◌≤◌, ◌<◌, codes, map, length, true, false, if◌then◌else◌, Some, None, option_map, IfOk, IfErr, OnOk};
-ghost use Rattle.edi_line.specs.Entry.{Entry};
+ghost use Rattle.edi_line.specs.ZoneData.{ZoneData};
 ghost use Rattle.std.specs.Vec.{vec_len, vec_capacity};
 ghost use Rattle.edi_record.specs.Shapes.{may_have_ends};
 ghost use Rattle.edi_record.specs.Records.{is_link};
@@ -158,7 +158,7 @@ pub(crate) struct Ends<'a> {
 impl<'a> Ends<'a> {
     /// No ends have come.
     pub(crate) fn new() -> Ends<'a>
-        ensures { (group : List Entry) → StoresEnds (kept_ends result []) group group }
+        ensures { (group : List ZoneData) → StoresEnds (kept_ends result []) group group }
     {
         Ends {
             opened: None,
@@ -231,14 +231,14 @@ impl<'a> Ends<'a> {
         kind: Kind,
         done: &mut Vec<End>,
     ) -> Result<(), GroupFault>
-        ensures states { OnOk result ((group : List Entry)
+        ensures states { OnOk result ((group : List ZoneData)
             → (is_link kind ≡ true → StoresEnds (kept_ends self.old done.old.items) [] group)
             → (if is_link kind then ends group else []) ≡ map Some done.new.items) }
         ensures shape { OnOk result (may_have_ends kind (length done.new.items) ≡ true) }
-        ensures sound { OnOk result ((group : List Entry) → kind_in group ≡ Some kind
+        ensures sound { OnOk result ((group : List ZoneData) → kind_in group ≡ Some kind
             → (is_link kind ≡ true → StoresEnds (kept_ends self.old done.old.items) [] group)
             → has_bad_end group ≡ false) }
-        ensures breach { IfErr result (λ fault. (group : List Entry) → kind_in group ≡ Some kind
+        ensures breach { IfErr result (λ fault. (group : List ZoneData) → kind_in group ≡ Some kind
             → (is_link kind ≡ true → StoresEnds (kept_ends self.old done.old.items) [] group)
             → IsBreachOf 207 (has_bad_end group) fault) }
     {

@@ -1,7 +1,7 @@
 //! The zones of a record whose codes aren't known.
 
 ghost use Rattle.std.specs.Prelude.{◌≡◌, ◌==◌, ◌&&◌, nat_lt, length, Bool, false, List, [], Some, IfOk, IfErr, OnOk};
-ghost use Rattle.edi_line.specs.Entry.{Entry, entry};
+ghost use Rattle.edi_line.specs.ZoneData.{ZoneData, entry};
 ghost use Rattle.edi_record.specs.Records.{may_be_number as number_format};
 ghost use Rattle.edi_record.specs.inner.Records.{value_of as value_in, extra as extra_in, extras};
 ghost use Rattle.edi_record.specs.inner.RecordRules.{kind_in, has_unknown_pointer};
@@ -59,7 +59,7 @@ pub(crate) struct Extras {
 impl Extras {
     /// No extras have come.
     pub(crate) fn new() -> Extras
-        ensures { (kind : Kind) (group : List Entry) → StoresExtras kind false (kept_extras result []) group group }
+        ensures { (kind : Kind) (group : List ZoneData) → StoresExtras kind false (kept_extras result []) group group }
     {
         Extras { is_broken: false }
     }
@@ -85,13 +85,13 @@ impl Extras {
     /// All extras have come, in the order of their zones; or rule 208 is broken, where one of them is a pointer that
     /// isn't empty.
     pub(crate) fn finish(self) -> Result<(), GroupFault>
-        ensures states { OnOk result ((kind : Kind) (is_open : Bool) (list : List ExtraZone) (group : List Entry)
+        ensures states { OnOk result ((kind : Kind) (is_open : Bool) (list : List ExtraZone) (group : List ZoneData)
             → StoresExtras kind is_open (kept_extras self list) [] group → extras kind group ≡ list) }
-        ensures sound { OnOk result ((kind : Kind) (is_open : Bool) (list : List ExtraZone) (group : List Entry)
+        ensures sound { OnOk result ((kind : Kind) (is_open : Bool) (list : List ExtraZone) (group : List ZoneData)
             → kind_in group ≡ Some kind → StoresExtras kind is_open (kept_extras self list) [] group
             → has_unknown_pointer group ≡ false) }
         ensures breach { IfErr result (λ fault. (kind : Kind) (is_open : Bool) (list : List ExtraZone)
-            (group : List Entry) → kind_in group ≡ Some kind → StoresExtras kind is_open (kept_extras self list) [] group
+            (group : List ZoneData) → kind_in group ≡ Some kind → StoresExtras kind is_open (kept_extras self list) [] group
             → IsBreachOf 208 (has_unknown_pointer group) fault) }
     {
         if self.is_broken {

@@ -2,7 +2,7 @@
 
 ghost use Rattle.std.specs.Prelude.{◌≡◌, ◌∷◌, [], List, codes, length, is_none, true, false, MatchOption};
 ghost use Rattle.std.specs.List.{list_any, before_first};
-ghost use Rattle.edi_line.specs.Entry.{Entry, entry, entries, has_code};
+ghost use Rattle.edi_line.specs.ZoneData.{ZoneData, entry, entries, has_code};
 ghost use Rattle.edi_record.specs.Records.{values, points_at};
 ghost use Rattle.edi_record.specs.inner.GroupRules.{closes_by, repeats_from, stretch_with_one, bad_ends};
 ghost use Rattle.edi_record.specs.inner.Records.{placed, is_open_after, is_extra as is_extra_zone};
@@ -129,8 +129,8 @@ impl Stretch {
         code: [u8; 3],
     ) -> Option<Stretch>
         ensures { MatchOption result
-            ((left : List Entry) → repeats_from self opens closes code (entry zone.now ∷ left) ≡ true)
-            (λ next. (left : List Entry) → repeats_from self opens closes code (entry zone.now ∷ left)
+            ((left : List ZoneData) → repeats_from self opens closes code (entry zone.now ∷ left) ≡ true)
+            (λ next. (left : List ZoneData) → repeats_from self opens closes code (entry zone.now ∷ left)
             ≡ repeats_from next opens closes code left) }
     {
         if zone.code == opens {

@@ -2,7 +2,7 @@
 
 ghost use Rattle.std.specs.Prelude.{◌≡◌, List, ◌+◌, ◌<◌, ◌≤◌, [], ◌∷◌, ◌==◌, length, position, option_map, MatchOption};
 ghost use Rattle.std.specs.List.{position_or_len};
-ghost use Rattle.edi_line.specs.Entry.{Entry, entry, entries, first};
+ghost use Rattle.edi_line.specs.ZoneData.{ZoneData, entry, entries, first};
 ghost use Rattle.edi_line.specs.Zones.{ends_group, before_end};
 ghost use Rattle.edi_record.specs.Records.{values, group_at as group_in};
 ghost use Rattle.edi_record.specs.inner.Records.{only};

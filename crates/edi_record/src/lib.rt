@@ -39,7 +39,7 @@ pub use broken::broken_records_from;
 pub use counts::is_count;
 pub use fault::{RecordFault, SheetFault};
 pub use groups::{first_value, group_here, lacks_identifier};
-pub use list::{KeepNothing, read_sheet, read_sheet_beside, read_sheet_from};
+pub use list::{NoObserver, read_sheet, read_sheet_from, read_sheet_with};
 pub use name::Name;
 pub use pointer::{Pointer, texts_are_unique};
 pub use points::is_position;

@@ -1,14 +1,14 @@
 //! The records of a file, made while its lines are read.
 
 ghost use Rattle.std.specs.Prelude.{◌≡◌, ℕ, List, [], IfOk, IfErr, OnOk, ⊤};
-ghost use Rattle.edi_line.specs.Entry.{Entry};
+ghost use Rattle.edi_line.specs.ZoneData.{ZoneData};
 ghost use Rattle.edi_line.specs.FileBytes.{file_bytes};
 ghost use Rattle.edi_line.specs.LineRules.{BreaksLineRule, IsZonesOf};
 ghost use Rattle.edi_line.specs.Refusal.{IsUnbroken};
 ghost use Rattle.edi_record.specs.RecordRefusal.{IsSheetRefusal};
 ghost use Rattle.edi_record.specs.RecordRules.{BreaksRecordRule};
 ghost use Rattle.edi_record.specs.Records.{StatesSheet};
-ghost use Rattle.edi_record.specs.Beside.{HasTakenAll};
+ghost use Rattle.edi_record.specs.Observers.{SawAll};
 ghost use Rattle.edi_record.specs.inner.Lists.{IsMadeOf};
 
 use crate::fault::{GroupFault, RecordFault, SheetFault};
@@ -71,9 +71,9 @@ impl<O: GroupOut> GroupOut for RecordsAndOther<O> {
 
 /// Takes zones, and keeps nothing of them.
 #[derive(Drop)]
-pub struct KeepNothing;
+pub struct NoObserver;
 
-impl GroupOut for KeepNothing {
+impl GroupOut for NoObserver {
     ghost Holds = { λ nothing groups. ⊤ };
 
     fn take(&mut self, _alloc: Global, _group: &[Zone<'_>]) -> Result<(), AllocError> {
@@ -87,34 +87,34 @@ impl GroupOut for KeepNothing {
 ///
 /// It answers as `zones` and then `records` do, and the zones of one record alone are in memory at a time.
 pub fn read_sheet(alloc: Global, bytes: &[u8]) -> Result<Sheet, SheetFault>
-    ensures sheet { IfOk result (λ sheet. (zones : List Entry) × IsZonesOf bytes.now zones × StatesSheet zones sheet) }
+    ensures sheet { IfOk result (λ sheet. (zones : List ZoneData) × IsZonesOf bytes.now zones × StatesSheet zones sheet) }
     ensures lines { OnOk result (IsUnbroken (BreaksLineRule bytes.now)) }
-    ensures records { OnOk result ((zones : List Entry) → IsZonesOf bytes.now zones
+    ensures records { OnOk result ((zones : List ZoneData) → IsZonesOf bytes.now zones
         → IsUnbroken (BreaksRecordRule zones)) }
     ensures refusal { IfErr result (IsSheetRefusal bytes.now) }
 {
-    let (sheet, _) = read_sheet_beside(alloc, bytes, KeepNothing)?;
+    let (sheet, _) = read_sheet_with(alloc, bytes, NoObserver)?;
     Ok(sheet)
 }
 
 /// What `read_sheet` gives, and what was given the zones of each record in the same pass, of which it had taken none.
-pub fn read_sheet_beside<O: GroupOut + Drop>(
+pub fn read_sheet_with<O: GroupOut + Drop>(
     alloc: Global,
     bytes: &[u8],
     other: O,
 ) -> Result<(Sheet, O), SheetFault>
     requires none_taken { O.Holds other [] }
-    ensures sheet { IfOk result (λ read. (zones : List Entry) × IsZonesOf bytes.now zones × StatesSheet zones read.0) }
-    ensures other { IfOk result (λ read. HasTakenAll bytes.now (O.Holds read.1)) }
+    ensures sheet { IfOk result (λ read. (zones : List ZoneData) × IsZonesOf bytes.now zones × StatesSheet zones read.0) }
+    ensures other { IfOk result (λ read. SawAll bytes.now (O.Holds read.1)) }
     ensures lines { OnOk result (IsUnbroken (BreaksLineRule bytes.now)) }
-    ensures records { OnOk result ((zones : List Entry) → IsZonesOf bytes.now zones
+    ensures records { OnOk result ((zones : List ZoneData) → IsZonesOf bytes.now zones
         → IsUnbroken (BreaksRecordRule zones)) }
     ensures refusal { IfErr result (IsSheetRefusal bytes.now) }
 {
     read_sheet_from(alloc, FileBytes::Whole(CowSlice::Borrowed(bytes)), other)
 }
 
-/// What `read_sheet_beside` gives of a file that is let go as it is read: at once at the end of its lines, or piece by
+/// What `read_sheet_with` gives of a file that is let go as it is read: at once at the end of its lines, or piece by
 /// piece.
 pub fn read_sheet_from<O: GroupOut + Drop>(
     alloc: Global,
@@ -122,11 +122,11 @@ pub fn read_sheet_from<O: GroupOut + Drop>(
     other: O,
 ) -> Result<(Sheet, O), SheetFault>
     requires none_taken { O.Holds other [] }
-    ensures sheet { IfOk result (λ read. (zones : List Entry) × IsZonesOf (file_bytes file.entry) zones
+    ensures sheet { IfOk result (λ read. (zones : List ZoneData) × IsZonesOf (file_bytes file.entry) zones
         × StatesSheet zones read.0) }
-    ensures other { IfOk result (λ read. HasTakenAll (file_bytes file.entry) (O.Holds read.1)) }
+    ensures other { IfOk result (λ read. SawAll (file_bytes file.entry) (O.Holds read.1)) }
     ensures lines { OnOk result (IsUnbroken (BreaksLineRule (file_bytes file.entry))) }
-    ensures records { OnOk result ((zones : List Entry) → IsZonesOf (file_bytes file.entry) zones
+    ensures records { OnOk result ((zones : List ZoneData) → IsZonesOf (file_bytes file.entry) zones
         → IsUnbroken (BreaksRecordRule zones)) }
     ensures refusal { IfErr result (IsSheetRefusal (file_bytes file.entry)) }
 {

@@ -1,7 +1,7 @@
 //! The points of a record.
 
 ghost use Rattle.std.specs.Prelude.{◌≡◌, true, false, if◌then◌else◌, List, [], map, length, codes, Some, option_map, IfOk, IfErr, OnOk};
-ghost use Rattle.edi_line.specs.Entry.{Entry};
+ghost use Rattle.edi_line.specs.ZoneData.{ZoneData};
 ghost use Rattle.edi_line.specs.inner.Number.{number};
 ghost use Rattle.edi_record.specs.inner.Texts.{parts, point, flat_place, high_place, last_part};
 ghost use Rattle.edi_record.specs.Shapes.{may_have_points};
@@ -88,7 +88,7 @@ pub(crate) struct Points {
 impl Points {
     /// No points have come.
     pub(crate) fn new() -> Points
-        ensures { (group : List Entry) → StoresPoints (kept_points result []) group group }
+        ensures { (group : List ZoneData) → StoresPoints (kept_points result []) group group }
     {
         Points { is_broken: false }
     }
@@ -109,14 +109,14 @@ impl Points {
     /// The points of a node or an arc, and none of other records; or rule 206, where one of them is
     /// no place or their number isn't that of the type.
     pub(crate) fn finish(self, kind: Kind, list: &mut Vec<Point>) -> Result<(), GroupFault>
-        ensures states { OnOk result ((group : List Entry)
+        ensures states { OnOk result ((group : List ZoneData)
             → (has_points kind ≡ true → StoresPoints (kept_points self list.old.items) [] group)
             → (if has_points kind then map point (values (codes "COR") group) else []) ≡ map Some list.new.items) }
         ensures shape { OnOk result (may_have_points kind (length list.new.items) ≡ true) }
-        ensures sound { OnOk result ((group : List Entry) → kind_in group ≡ Some kind
+        ensures sound { OnOk result ((group : List ZoneData) → kind_in group ≡ Some kind
             → (has_points kind ≡ true → StoresPoints (kept_points self list.old.items) [] group)
             → has_bad_point group ≡ false) }
-        ensures breach { IfErr result (λ fault. (group : List Entry) → kind_in group ≡ Some kind
+        ensures breach { IfErr result (λ fault. (group : List ZoneData) → kind_in group ≡ Some kind
             → (has_points kind ≡ true → StoresPoints (kept_points self list.old.items) [] group)
             → IsBreachOf 206 (has_bad_point group) fault) }
     {

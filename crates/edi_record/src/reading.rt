@@ -3,7 +3,7 @@
 ghost use Rattle.std.specs.Prelude.{◌≡◌, ◌≤◌, ◌<◌, ◌+◌, List, [], ◌∷◌, MatchOption, drop, Bool, ℕ, true, false, codes, length, option_map, IfOk, IfErr, OnOk};
 ghost use Rattle.std.specs.List.{AllZip};
 ghost use Rattle.edi_line.specs.Bytes.{most_records};
-ghost use Rattle.edi_line.specs.Entry.{Entry, entry, entries};
+ghost use Rattle.edi_line.specs.ZoneData.{ZoneData, entry, entries};
 ghost use Rattle.edi_line.specs.LineRules.{IsZonesOf};
 ghost use Rattle.edi_line.specs.Refusal.{IsUnbroken, IsLeastBroken};
 ghost use Rattle.edi_line.specs.Zones.{groups_of, charset_of as charset_in};
@@ -98,7 +98,7 @@ pub fn records(alloc: Global, zones: &[Zone<'_>]) -> Result<Sheet, RecordFault>
 
 /// A group of zones states one record at most.
 pub fn records_are_unique()
-    ensures { (group : List Entry) (r q : Record) → States group r → States group q → r ≡ q }
+    ensures { (group : List ZoneData) (r q : Record) → States group r → States group q → r ≡ q }
 {}
 
 /// The zones of a record state it, with its ends and values as they are written.
@@ -129,25 +129,25 @@ pub fn printed_records_break_no_rule()
 
 /// Known files state what they should.
 pub fn known_files_are_read()
-    ensures zones { (zones : List Entry) × IsZonesOf (one_node []) zones × (groups_of zones ≡ node_group ∷ [])
+    ensures zones { (zones : List ZoneData) × IsZonesOf (one_node []) zones × (groups_of zones ≡ node_group ∷ [])
         × IsUnbroken (BreaksRecordRule zones) }
     ensures node { States node_group the_node }
-    ensures wrong_count { (zones : List Entry) × IsZonesOf (one_node (line (codes "ATCSN01:1") [])) zones
+    ensures wrong_count { (zones : List ZoneData) × IsZonesOf (one_node (line (codes "ATCSN01:1") [])) zones
         × IsLeastBroken (BreaksRecordRule zones) 205 1 }
-    ensures unknown_pointer { (zones : List Entry)
+    ensures unknown_pointer { (zones : List ZoneData)
         × IsZonesOf (one_node (line (codes "REFCP22:EDAB01;SeT1;PNO;Noeud_") [])) zones
         × IsLeastBroken (BreaksRecordRule zones) 208 1 }
-    ensures empty_pointer { (zones : List Entry) × IsZonesOf (one_node (line (codes "REFCP00:") [])) zones
+    ensures empty_pointer { (zones : List ZoneData) × IsZonesOf (one_node (line (codes "REFCP00:") [])) zones
         × IsUnbroken (BreaksRecordRule zones) }
 {}
 
 /// A group of zones that states a record breaks no rule on its type, its identifier or its class;
 /// and a text has one value.
 pub fn stated_records_have_names()
-    ensures kind { (group : List Entry) (r : Record) → States group r → ¬ (LacksKind group) }
-    ensures identifier { (group : List Entry) (r : Record) → States group r → is_identifier r.rid ≡ true
+    ensures kind { (group : List ZoneData) (r : Record) → States group r → ¬ (LacksKind group) }
+    ensures identifier { (group : List ZoneData) (r : Record) → States group r → is_identifier r.rid ≡ true
         → has_no_identifier group ≡ false }
-    ensures class { (group : List Entry) (r : Record) → States group r → ¬ (LacksClass group) }
+    ensures class { (group : List ZoneData) (r : Record) → States group r → ¬ (LacksClass group) }
     ensures value { (may : Bool) (text : List ℕ) → (value : Value) × IsValueOf (may ≡ true) text value }
     ensures one_value { (may : Bool) (text : List ℕ) (value other : Value) → IsValueOf (may ≡ true) text value
         → IsValueOf (may ≡ true) text other → value ≡ other }

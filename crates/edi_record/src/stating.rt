@@ -1,7 +1,7 @@
 //! The record that a group of zones states.
 
 ghost use Rattle.std.specs.Prelude.{◌≡◌, ◌≤◌, true, ◌∷◌, None, length, drop, IfOk, IfErr, OnOk};
-ghost use Rattle.edi_line.specs.Entry.{entry, entries};
+ghost use Rattle.edi_line.specs.ZoneData.{entry, entries};
 ghost use Rattle.edi_line.specs.Zones.{begins_group, ends_group, before_end, groups_of};
 ghost use Rattle.edi_line.specs.inner.Refusal.{first_broken};
 ghost use Rattle.edi_record.specs.Shapes.{is_in_shape};

@@ -7,7 +7,7 @@ use Rattle.std.proofs.lemmas.List.Folds.{list_any-append}
 use Rattle.std.proofs.lemmas.List.FromFn.{get_or-map-range_with_len, length-map-range_with_len}
 use Rattle.edi_record.specs.declared.record.Kind.{Kind}
 use Rattle.edi_plan.specs.Places.{places_of}
-use Rattle.edi_plan.specs.Plans.{Drawing, IsPlace}
+use Rattle.edi_plan.specs.Plans.{PlanData, IsPlace}
 use Rattle.edi_plan.proofs.PlaceLemmas.{place_there}
 use Rattle.edi_rank.proofs.KeysPreserved.{count_by-map}
 use Rattle.edi_line.specs.Bytes.{line_feed}
@@ -21,7 +21,7 @@ lines_more f xs old text new k less done more =
     more ∙ (ap (λ t. t ++ f (get_or xs k 0)) done ∙ (flat_map_more f old (take k xs) (get_or xs k 0) ∙ ap (λ ys. old ++ flat_map f ys) (sym (take_more xs k 0 less))))
 
 -- the places of a type are places
-pub places_there : (kind : Kind) (p : Drawing) (places : List ℕ) (k : ℕ) → places ≡ places_of kind p → k < length places → IsPlace p (get_or places k 0)
+pub places_there : (kind : Kind) (p : PlanData) (places : List ℕ) (k : ℕ) → places ≡ places_of kind p → k < length places → IsPlace p (get_or places k 0)
 places_there kind p places k is less =
     subst (λ (ps : List ℕ). IsPlace p (get_or ps k 0)) (sym is) (place_there kind p k (subst (λ (ps : List ℕ). k < length ps) is less))
 

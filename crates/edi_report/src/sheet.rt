@@ -14,7 +14,7 @@ ghost use Rattle.edi_report.specs.inner.Sheets.{IsPackedSheet, IsUnpacked};
 
 use crate::packed::PackedSites;
 use crate::site::Site;
-use edi_compare::{Accepted, CompareFault, Fault, accept_beside, first_refused, second_refused};
+use edi_compare::{Accepted, CompareFault, Fault, accept_with, first_refused, second_refused};
 use edi_line::{FileBytes, Sequence};
 use edi_record::Kind;
 use edi_schema::Schema;
@@ -103,7 +103,7 @@ fn locate_packed(alloc: Global, schema: &Schema, bytes: FileBytes<'_>) -> Result
     ensures packed { IfOk result (IsPackedSheet schema.now (file_bytes bytes.entry)) }
     ensures refusal { IfErr result (IsRefusal schema.now (file_bytes bytes.entry)) }
 {
-    let (accepted, sites) = accept_beside(alloc, schema, bytes, PackedSites::new(alloc))?;
+    let (accepted, sites) = accept_with(alloc, schema, bytes, PackedSites::new(alloc))?;
     Ok(PackedSheet { accepted, sites })
 }
 

@@ -1,7 +1,7 @@
 //! Where the records of a file stand.
 
 ghost use Rattle.std.specs.Prelude.{◌≡◌, [], codes, unwrap_or};
-ghost use Rattle.edi_line.specs.Entry.{entries, first};
+ghost use Rattle.edi_line.specs.ZoneData.{entries, first};
 ghost use Rattle.edi_record.specs.Records.{values};
 
 use edi_line::codes::RID;

@@ -1,7 +1,7 @@
 -- Steps of the loop that reads the records of a file.
 use Rattle.std.proofs.Common.{◌≡◌, Bool, true, false, cond, List, [], ◌∷◌, ◌++◌, ◌≤◌, ◌<◌, ◌-◌, length, take, drop, arith, map, Some, None, refl, sym, ap, ◌∙◌}
 use Rattle.std.proofs.lemmas.List.{append-nil, append_assoc, take_all, map-append}
-use Rattle.edi_line.specs.Entry.{Entry, entry, entries}
+use Rattle.edi_line.specs.ZoneData.{ZoneData, entry, entries}
 use Rattle.edi_line.specs.Zones.{begins_group, before_end, groups_of}
 use Rattle.edi_line.specs.declared.zone.Zone.{Zone}
 use Rattle.edi_record.specs.Records.{group_at}
@@ -11,7 +11,7 @@ use Rattle.edi_schema.specs.declared.definition.Definition.{Definition}
 abbrev behind : List Zone → List Zone
 behind rest = take (length rest - 1) (drop 1 rest)
 
-group_found : (rest : List Zone) (g : List Entry) → Some g ≡ group_at (entries rest) → groups_of (entries rest) ≡ g ∷ groups_of (entries (behind rest))
+group_found : (rest : List Zone) (g : List ZoneData) → Some g ≡ group_at (entries rest) → groups_of (entries rest) ≡ g ∷ groups_of (entries (behind rest))
 group_found [] g e = absurd cc
 group_found (z ∷ zs) g e = go (begins_group (entry z)) refl e
   where
@@ -32,7 +32,7 @@ group_lacks (z ∷ zs) some e = go (begins_group (entry z)) refl e
 abbrev Kept : List Said → List Definition → List Zone → Type 0
 Kept all done rest = all ≡ map said done ++ map said_in (groups_of (entries rest))
 
-pub one_more : (all : List Said) (done new : List Definition) (d : Definition) (rest : List Zone) (g : List Entry)
+pub one_more : (all : List Said) (done new : List Definition) (d : Definition) (rest : List Zone) (g : List ZoneData)
     → Kept all done rest → Some g ≡ group_at (entries rest) → said d ≡ said_in g → new ≡ done ++ d ∷ [] → Kept all new (behind rest)
 one_more all done new d rest g kept here is pushed =
     let next : map said_in (groups_of (entries rest)) ≡ said d ∷ map said_in (groups_of (entries (behind rest))) =

@@ -1,7 +1,7 @@
 -- A file whose lines break no rule has at most 9,999,999 records.
 use Rattle.std.proofs.Common.{◌≡◌, ◌⊎◌, ℕ, zero, suc, ◌+◌, ◌<◌, ◌≤◌, Bool, true, false, cond, ◌&&◌, ◌==◌, List, [], ◌∷◌, ◌++◌, length, Some, None, Ok, Err, count_by, codes, bytes_eq, refl, sym, ap, ◌∙◌, subst, arith, inl, inr, eq-eqb}
 use Rattle.std.proofs.lemmas.Slice.Eq.{bytes_eq-Decides}
-use Rattle.edi_line.specs.Entry.{Entry}
+use Rattle.edi_line.specs.ZoneData.{ZoneData}
 use Rattle.edi_line.specs.Spelling.{Spelling, Reading}
 use Rattle.edi_line.specs.LineRules.{IsZonesOf, BreaksLineRule, BreaksAt}
 use Rattle.edi_line.specs.Zones.{groups_of}
@@ -13,7 +13,7 @@ use Rattle.edi_line.proofs.Readings.{unbroken_read}
 use Rattle.edi_line.proofs.ZonesSaid.{zones_read}
 use Rattle.edi_schema.proofs.Paired.{count-cons}
 
-pub zones_are : (b : List ℕ) (zones : List Entry) → IsZonesOf b zones → zones ≡ zones_of b
+pub zones_are : (b : List ℕ) (zones : List ZoneData) → IsZonesOf b zones → zones ≡ zones_of b
 zones_are b zones h = (zones_read b zones h).is
 
 by_code : (code text : List ℕ) (P : List ℕ → Type 0) → P text → (bytes_eq code text ≡ false → P code) → P code
@@ -85,7 +85,7 @@ few_records lines sound = go (Rattle.std.proofs.lemmas.Bool.cases_order (count_b
     go (inr (inl l)) = omega (arith, l)
     go (inr (inr l)) = absurd (too_many l)
 
-pub few_groups : (b : List ℕ) (zones : List Entry) → IsZonesOf b zones → IsUnbroken (BreaksLineRule b) → length (groups_of zones) ≤ 9999999
+pub few_groups : (b : List ℕ) (zones : List ZoneData) → IsZonesOf b zones → IsUnbroken (BreaksLineRule b) → length (groups_of zones) ≤ 9999999
 few_groups b zones is sound =
     let few = few_records (readings_of b) (λ place h. unbroken_read b sound 110 place (inl h)) in
     omega (arith, ap (λ z. length (groups_of z)) (zones_are b zones is), groups_counted 0 (readings_of b), few)

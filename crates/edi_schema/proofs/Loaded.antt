@@ -2,7 +2,7 @@
 use Rattle.std.proofs.Common.{◌≡◌, ℕ, ◌≤◌, List, length, map, Result, Ok, Err, IfOk, IfErr, OnOk, sym, ap, ◌∙◌, subst, arith}
 use Rattle.std.specs.List.{AllByRecursion}
 use Rattle.std.proofs.lemmas.List.{length-map}
-use Rattle.edi_line.specs.Entry.{Entry as Zone, entries}
+use Rattle.edi_line.specs.ZoneData.{ZoneData as Zone, entries}
 use Rattle.edi_line.specs.declared.zone.Zone.{Zone as ZoneOf}
 use Rattle.edi_schema.specs.declared.definition.Definition.{Definition}
 use Rattle.edi_schema.specs.declared.draft.ClassDraft.{ClassDraft}

@@ -5,7 +5,7 @@ use Rattle.std.specs.List.{AllByRecursion, AllZip, list_any}
 use Rattle.std.specs.Map.{lookup}
 use Rattle.std.proofs.lemmas.Option.{same_Some, none-some}
 use Rattle.std.proofs.lemmas.List.Sorted.{sum_by-IsPermutation, list_any-IsPermutation}
-use Rattle.edi_line.specs.Entry.{Entry}
+use Rattle.edi_line.specs.ZoneData.{ZoneData}
 use Rattle.edi_record.specs.declared.name.Name.{Name}
 use Rattle.edi_record.specs.Records.{values, first}
 use Rattle.edi_record.specs.Texts.{is_semicolon}
@@ -28,14 +28,14 @@ use Rattle.edi_schema.proofs.Pointable.{any_at, some_pass, by_pointable, makes_p
 
 -- ---- words
 
-abbrev pub word_of : List Entry → Name × Option (List ℕ)
+abbrev pub word_of : List ZoneData → Name × Option (List ℕ)
 word_of g = (name_in g, first (values (codes "TYP") g))
 
-zip_words : (gs : List (List Entry)) → ((k : ℕ) (g : List Entry) → slice_get gs k ≡ Some g → IsNamed g (name_in g)) → AllZip StatesWord gs (map word_of gs)
+zip_words : (gs : List (List ZoneData)) → ((k : ℕ) (g : List ZoneData) → slice_get gs k ≡ Some g → IsNamed g (name_in g)) → AllZip StatesWord gs (map word_of gs)
 zip_words [] named = tt
 zip_words (g ∷ gs) named = ((named 0 g refl, refl), zip_words gs (λ k h e. named (suc k) h e))
 
-found_up : (name : Name) (gs : List (List Entry)) (w : Said) → find (λ word. is_name name word.name) (map said_in gs) ≡ Some w → lookup (is_name name) (map word_of gs) ≡ Some w.word_type
+found_up : (name : Name) (gs : List (List ZoneData)) (w : Said) → find (λ word. is_name name word.name) (map said_in gs) ≡ Some w → lookup (is_name name) (map word_of gs) ≡ Some w.word_type
 found_up name [] w e = absurd (none-some w e)
 found_up name (g ∷ gs) w e = go (is_name name (name_in g)) refl e (found_up name gs w)
   where
@@ -49,8 +49,8 @@ no_first : (vs : List (List ℕ)) → first vs ≡ None → vs ≡ []
 no_first [] e = refl
 no_first (v ∷ vs) e = absurd (none-some v (sym e))
 
-module _ (ws : List (List Entry)) (led : AllByRecursion IsLed ws) (form : AreIdentified (map said_in ws)) where
-  type_found : (g : List Entry) (t : Option (List ℕ)) → type_by (map said_in ws) (first (values (codes "DIP") g)) ≡ Some t → HasType (map word_of ws) g t
+module _ (ws : List (List ZoneData)) (led : AllByRecursion IsLed ws) (form : AreIdentified (map said_in ws)) where
+  type_found : (g : List ZoneData) (t : Option (List ℕ)) → type_by (map said_in ws) (first (values (codes "DIP") g)) ≡ Some t → HasType (map word_of ws) g t
   type_found g t e = go (first (values (codes "DIP") g)) refl e
     where
       by_word : (text : List ℕ) → first (values (codes "DIP") g) ≡ Some text → (o : Option Said) → word_in (map said_in ws) text ≡ o → option_map (λ word. word.word_type) o ≡ Some t → HasType (map word_of ws) g t
@@ -64,7 +64,7 @@ module _ (ws : List (List Entry)) (led : AllByRecursion IsLed ws) (form : AreIde
       go None f e = subst (HasType (map word_of ws) g) (same_Some None t e) (none (no_first (values (codes "DIP") g) f))
       go (Some text) f e = by_word text f (word_in (map said_in ws) text) refl e
 
-  states : (kinds : KindCodes) (g : List Entry) (p : Name × Class) → IsNamed g (name_in g) → class_in kinds (map said_in ws) (said_in g) ≡ Some p → StatesClass kinds (map word_of ws) g p
+  states : (kinds : KindCodes) (g : List ZoneData) (p : Name × Class) → IsNamed g (name_in g) → class_in kinds (map said_in ws) (said_in g) ≡ Some p → StatesClass kinds (map word_of ws) g p
   states kinds g p named e = go (type_by (map said_in ws) (first (values (codes "DIP") g))) refl e
     where
       go : (o : Option (Option (List ℕ))) → type_by (map said_in ws) (first (values (codes "DIP") g)) ≡ o → option_map (named_class kinds g) o ≡ Some p → StatesClass kinds (map word_of ws) g p
@@ -78,15 +78,15 @@ module _ (ws : List (List Entry)) (led : AllByRecursion IsLed ws) (form : AreIde
         number = refl;
       })
 
-  zip_classes : (kinds : KindCodes) (gs : List (List Entry)) (stated : Classes) → ((k : ℕ) (g : List Entry) → slice_get gs k ≡ Some g → IsNamed g (name_in g))
+  zip_classes : (kinds : KindCodes) (gs : List (List ZoneData)) (stated : Classes) → ((k : ℕ) (g : List ZoneData) → slice_get gs k ≡ Some g → IsNamed g (name_in g))
       → map (class_in kinds (map said_in ws)) (map said_in gs) ≡ map Some stated → AllZip (StatesClass kinds (map word_of ws)) gs stated
   zip_classes kinds [] [] named e = tt
-  zip_classes kinds [] (p ∷ ps) named e = absurd (none-some _ (ap Rattle.edi_line.specs.Entry.first e))
-  zip_classes kinds (g ∷ gs) [] named e = absurd (none-some _ (ap Rattle.edi_line.specs.Entry.first (sym e)))
+  zip_classes kinds [] (p ∷ ps) named e = absurd (none-some _ (ap Rattle.edi_line.specs.ZoneData.first e))
+  zip_classes kinds (g ∷ gs) [] named e = absurd (none-some _ (ap Rattle.edi_line.specs.ZoneData.first (sym e)))
   zip_classes kinds (g ∷ gs) (p ∷ ps) named e =
-      (states kinds g p (named 0 g refl) (same_Some _ _ (ap Rattle.edi_line.specs.Entry.first e)), zip_classes kinds gs ps (λ k h f. named (suc k) h f) (ap (drop 1) e))
+      (states kinds g p (named 0 g refl) (same_Some _ _ (ap Rattle.edi_line.specs.ZoneData.first e)), zip_classes kinds gs ps (λ k h f. named (suc k) h f) (ap (drop 1) e))
 
-module _ (cs ws : List (List Entry)) (cs_led : AllByRecursion IsLed cs) (ws_led : AllByRecursion IsLed ws) (kinds : KindCodes) (s : Classes) (are : AreStated (map said_in cs) (map said_in ws) kinds s) where
+module _ (cs ws : List (List ZoneData)) (cs_led : AllByRecursion IsLed cs) (ws_led : AllByRecursion IsLed ws) (kinds : KindCodes) (s : Classes) (are : AreStated (map said_in cs) (map said_in ws) kinds s) where
   each_class : AllZip (StatesClass kinds (map word_of ws)) cs are.stated
   each_class = zip_classes ws ws_led are.named.words_identified kinds cs are.stated (own_name cs cs_led are.named.classes_identified) are.each
 
@@ -102,7 +102,7 @@ module _ (cs ws : List (List Entry)) (cs_led : AllByRecursion IsLed cs) (ws_led 
 
   -- ---- kinds
 
-  abbrev Stated : List Entry → Name × Class → Type 0
+  abbrev Stated : List ZoneData → Name × Class → Type 0
   Stated = StatesClass kinds (map word_of ws)
 
   counts : (role : Role) → count_by (has_role role) s ≡ count_by (has_role role) are.stated

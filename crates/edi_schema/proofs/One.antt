@@ -6,7 +6,7 @@ use Rattle.std.specs.Ordering.{ordering_reverse}
 use Rattle.std.proofs.lemmas.Cmp.{tied_itself}
 use Rattle.std.proofs.lemmas.Option.{same_Some, none-some, slice_get-map, slice_get_within, get_or_from_slice_get, slice_get-get_or}
 use Rattle.std.proofs.lemmas.List.Sorted.{IsPermutation-sym, IsPermutation-trans, Contains-permutation}
-use Rattle.edi_line.specs.Entry.{Entry}
+use Rattle.edi_line.specs.ZoneData.{ZoneData}
 use Rattle.edi_line.specs.Zones.{groups_of}
 use Rattle.edi_line.proofs.ZonesFound.{zones_of}
 use Rattle.edi_line.proofs.Said.{file_said}
@@ -25,13 +25,13 @@ use Rattle.edi_schema.proofs.FewGroups.{zones_are}
 use Rattle.edi_schema.proofs.Led.{named_so}
 use Rattle.edi_schema.proofs.Ordered.{all_at, name_total}
 
-groups_one : (b : List ℕ) (groups : List (List Entry)) → IsGroupsOf b groups → groups ≡ groups_of (zones_of b)
+groups_one : (b : List ℕ) (groups : List (List ZoneData)) → IsGroupsOf b groups → groups ≡ groups_of (zones_of b)
 groups_one b groups h = sym (file_said h.0 h.1 groups h.3).1 ∙ ap groups_of (zones_are b h.0 h.2)
 
 pair_same : {A B : Type 0} (p q : A × B) → p.0 ≡ q.0 → p.1 ≡ q.1 → p ≡ q
 pair_same p q e f = λ j. (e j, f j)
 
-words_one : (gs : List (List Entry)) (ws vs : Words) → AllZip StatesWord gs ws → AllZip StatesWord gs vs → ws ≡ vs
+words_one : (gs : List (List ZoneData)) (ws vs : Words) → AllZip StatesWord gs ws → AllZip StatesWord gs vs → ws ≡ vs
 words_one [] [] [] h g = refl
 words_one [] [] (v ∷ vs) h g = absurd g
 words_one [] (w ∷ ws) vs h g = absurd h
@@ -41,7 +41,7 @@ words_one (x ∷ xs) (w ∷ ws) (v ∷ vs) h g =
     let same : w ≡ v = pair_same w v (named_so x w.0 h.0.0 ∙ sym (named_so x v.0 g.0.0)) (h.0.1 ∙ sym g.0.1) in
     ap (λ y. y ∷ ws) same ∙ ap (λ t. v ∷ t) (words_one xs ws vs h.1 g.1)
 
-type_one : (words : Words) (g : List Entry) (s t : Option (List ℕ)) → HasType words g s → HasType words g t → s ≡ t
+type_one : (words : Words) (g : List ZoneData) (s t : Option (List ℕ)) → HasType words g s → HasType words g t → s ≡ t
 type_one words g s t (none e) (none f) = refl
 type_one words g s t (none e) (some f points found) = absurd (none-some _ (sym (ap first e) ∙ f))
 type_one words g s t (some f points found) (none e) = absurd (none-some _ (sym (ap first e) ∙ f))
@@ -53,7 +53,7 @@ type_one words g s t (some {text} {name} f points found) (some {text = text2} {n
 class_same : (a b : Class) → a.role ≡ b.role → a.letter ≡ b.letter → a.is_number ≡ b.is_number → a ≡ b
 class_same a b e f g = λ j. record { role = e j; letter = f j; is_number = g j }
 
-entry_one : (kinds : KindCodes) (words : Words) (g : List Entry) (p q : Name × Class) → StatesClass kinds words g p → StatesClass kinds words g q → p ≡ q
+entry_one : (kinds : KindCodes) (words : Words) (g : List ZoneData) (p q : Name × Class) → StatesClass kinds words g p → StatesClass kinds words g q → p ≡ q
 entry_one kinds words g p q h k =
     let name : p.0 ≡ q.0 = named_so g p.0 h.named ∙ sym (named_so g q.0 k.named) in
     let typ : h.typ ≡ k.typ = type_one words g h.typ k.typ h.has_type k.has_type in
@@ -62,7 +62,7 @@ entry_one kinds words g p q h k =
     (h.letter ∙ (ap letter_read typ ∙ sym k.letter))
     (h.number ∙ (ap is_number_type typ ∙ sym k.number)))
 
-classes_one : (kinds : KindCodes) (words : Words) (gs : List (List Entry)) (ps qs : Classes) → AllZip (StatesClass kinds words) gs ps → AllZip (StatesClass kinds words) gs qs → ps ≡ qs
+classes_one : (kinds : KindCodes) (words : Words) (gs : List (List ZoneData)) (ps qs : Classes) → AllZip (StatesClass kinds words) gs ps → AllZip (StatesClass kinds words) gs qs → ps ≡ qs
 classes_one kinds words [] [] [] h k = refl
 classes_one kinds words [] [] (q ∷ qs) h k = absurd k
 classes_one kinds words [] (p ∷ ps) qs h k = absurd h
@@ -114,7 +114,7 @@ moved_in s t moved x h =
     let there = Contains-permutation s t x moved (h.0, slice_get_within s h.0 x h.1, get_or_from_slice_get s h.0 x x h.1) in
     (there.0, slice_get-get_or t there.0 x there.1 ∙ ap Some there.2)
 
-schema_one : (kinds : KindCodes) (cs ws : List (List Entry)) (s t : Classes) → IsSchemaOf cs ws kinds s → IsSchemaOf cs ws kinds t → s ≡ t
+schema_one : (kinds : KindCodes) (cs ws : List (List ZoneData)) (s t : Classes) → IsSchemaOf cs ws kinds s → IsSchemaOf cs ws kinds t → s ≡ t
 schema_one kinds cs ws s t h k =
     let words : h.words ≡ k.words = words_one ws h.words k.words h.each_word k.each_word in
     let stated : h.stated ≡ k.stated = classes_one kinds k.words cs h.stated k.stated (subst (λ w. AllZip (StatesClass kinds w) cs h.stated) words h.each_class) k.each_class in

@@ -5,7 +5,7 @@ use Rattle.std.proofs.lemmas.Bool.{and_parts}
 use Rattle.std.proofs.lemmas.List.Elements.{recursion_from_All, All-from_recursion}
 use Rattle.std.proofs.lemmas.List.Sorted.{All-permutation}
 use Rattle.std.proofs.lemmas.Option.{same_Some, none-some}
-use Rattle.edi_line.specs.Entry.{Entry, first, has_code}
+use Rattle.edi_line.specs.ZoneData.{ZoneData, first, has_code}
 use Rattle.edi_line.specs.LineRules.{BreaksLineRule}
 use Rattle.edi_line.specs.Printing.{IsOneLine}
 use Rattle.edi_line.specs.Refusal.{IsUnbroken}
@@ -27,7 +27,7 @@ use Rattle.edi_schema.specs.declared.fault.Source.TheVariants.{Scd}
 
 -- ---- values of zones
 
-value_line : (code : List ℕ) (group : List Entry) → AreGroupZones group → (text : List ℕ) → first (values code group) ≡ Some text → IsOneLine text
+value_line : (code : List ℕ) (group : List ZoneData) → AreGroupZones group → (text : List ℕ) → first (values code group) ≡ Some text → IsOneLine text
 value_line code [] lines text e = absurd (none-some text e)
 value_line code (z ∷ zs) lines text e = go (has_code code z) refl e (value_line code zs lines.1 text)
   where
@@ -60,11 +60,11 @@ the_one test (x ∷ y ∷ xs) text h e = absurd (true≢false (sym h))
 
 -- ---- the classes that files state
 
-pub group_lines : (b : List ℕ) (groups : List (List Entry)) → IsGroupsOf b groups → IsUnbroken (BreaksLineRule b) → AllByRecursion AreGroupZones groups
+pub group_lines : (b : List ℕ) (groups : List (List ZoneData)) → IsGroupsOf b groups → IsUnbroken (BreaksLineRule b) → AllByRecursion AreGroupZones groups
 group_lines b groups file sound = subst (AllByRecursion AreGroupZones) (ap groups_of (sym (zones_read b file.0 file.2).is) ∙ (file_said file.0 file.1 groups file.3).1) (groups_readable b sound)
 
-module _ (classes entries : List (List Entry)) (rules : EntriesHold classes entries) where
-  has_identifier : (k : ℕ) (group : List Entry) → slice_get classes k ≡ Some group → just_one is_identifier (values (codes "RID") group) ≡ true
+module _ (classes entries : List (List ZoneData)) (rules : EntriesHold classes entries) where
+  has_identifier : (k : ℕ) (group : List ZoneData) → slice_get classes k ≡ Some group → just_one is_identifier (values (codes "RID") group) ≡ true
   has_identifier k group e = go (just_one is_identifier (values (codes "RID") group)) refl
     where
       there : slice_get classes (suc k - 1) ≡ Some group
@@ -79,15 +79,15 @@ module _ (classes entries : List (List Entry)) (rules : EntriesHold classes entr
       recursion_from_All (λ (e : Name × Class). IsReadName e.0) s (All-permutation (λ (e : Name × Class). IsReadName e.0) is.stated s is.same
       (All-from_recursion (λ (e : Name × Class). IsReadName e.0) is.stated (names classes is.stated is.each_class lines has_identifier)))
     where
-      read_name : (group : List Entry) (name : Name) → AreGroupZones group → just_one is_identifier (values (codes "RID") group) ≡ true → IsNamed group name → IsReadName name
+      read_name : (group : List ZoneData) (name : Name) → AreGroupZones group → just_one is_identifier (values (codes "RID") group) ≡ true → IsNamed group name → IsReadName name
       read_name group name lines one named = (
         value_line (codes "RTY") group lines name.rty named.rty,
         value_line (codes "RID") group lines name.rid named.rid,
         identifier_whole name.rid (the_one is_identifier (values (codes "RID") group) name.rid one named.rid),
       )
 
-      names : (groups : List (List Entry)) (stated : Classes) → AllZip (StatesClass kinds is.words) groups stated → AllByRecursion AreGroupZones groups
-          → ((k : ℕ) (group : List Entry) → slice_get groups k ≡ Some group → just_one is_identifier (values (codes "RID") group) ≡ true) → AllByRecursion (λ (e : Name × Class). IsReadName e.0) stated
+      names : (groups : List (List ZoneData)) (stated : Classes) → AllZip (StatesClass kinds is.words) groups stated → AllByRecursion AreGroupZones groups
+          → ((k : ℕ) (group : List ZoneData) → slice_get groups k ≡ Some group → just_one is_identifier (values (codes "RID") group) ≡ true) → AllByRecursion (λ (e : Name × Class). IsReadName e.0) stated
       names [] [] all lines one = tt
       names [] (e ∷ es) all lines one = absurd all
       names (g ∷ gs) [] all lines one = absurd all

@@ -5,7 +5,7 @@ use Rattle.std.specs.List.{AllByRecursion, IsDistinct, list_any}
 use Rattle.std.proofs.lemmas.Option.{same_Some, none-some, slice_get-map, slice_get_within, slice_get-get_or, get_or_from_slice_get}
 use Rattle.std.proofs.lemmas.List.Quantifiers.{position-Some}
 use Rattle.std.proofs.lemmas.Map.Keys.{apart_from_distinct}
-use Rattle.edi_line.specs.Entry.{Entry}
+use Rattle.edi_line.specs.ZoneData.{ZoneData}
 use Rattle.edi_record.specs.declared.name.Name.{Name}
 use Rattle.edi_record.specs.Records.{values, first}
 use Rattle.edi_record.specs.RecordRules.{has_no_identifier}
@@ -30,14 +30,14 @@ abbrev pub unidentified : Said → Bool
 unidentified s = s.lacks_identifier
 
 -- a group at a place of a list of groups
-abbrev pub At : List (List Entry) → ℕ → List Entry → Type 0
+abbrev pub At : List (List ZoneData) → ℕ → List ZoneData → Type 0
 At gs at g = (1 ≤ at) × (slice_get gs (at - 1) ≡ Some g)
 
-abbrev Lacks : List (List Entry) → ℕ → Type 0
-Lacks gs at = (g : List Entry) × At gs at g × (has_no_identifier g ≡ true)
+abbrev Lacks : List (List ZoneData) → ℕ → Type 0
+Lacks gs at = (g : List ZoneData) × At gs at g × (has_no_identifier g ≡ true)
 
-abbrev Repeats : List (List Entry) → ℕ → Type 0
-Repeats gs at = (m : ℕ) × (earlier g : List Entry) × (name : Name) × (m < at) × At gs m earlier × At gs at g × IsNamed earlier name × IsNamed g name
+abbrev Repeats : List (List ZoneData) → ℕ → Type 0
+Repeats gs at = (m : ℕ) × (earlier g : List ZoneData) × (name : Name) × (m < at) × At gs m earlier × At gs at g × IsNamed earlier name × IsNamed g name
 
 -- ---- 601
 
@@ -51,19 +51,19 @@ none_passes p xs none k x here = go (p x) refl
         let zero_count = Rattle.edi_schema.proofs.Noted.none_counted p xs none in
         absurd (omega (arith, some, zero_count))
 
-all_in_form : (gs : List (List Entry)) → AreIdentified (map said_in gs) → (k : ℕ) (g : List Entry) → slice_get gs k ≡ Some g → has_no_identifier g ≡ false
+all_in_form : (gs : List (List ZoneData)) → AreIdentified (map said_in gs) → (k : ℕ) (g : List ZoneData) → slice_get gs k ≡ Some g → has_no_identifier g ≡ false
 all_in_form gs none k g here = none_passes unidentified (map said_in gs) none k (said_in g) (slice_get-map said_in gs k ∙ ap (option_map said_in) here)
 
-no_lack : (gs : List (List Entry)) → AreIdentified (map said_in gs) → (at : ℕ) → Lacks gs at → ⊥
+no_lack : (gs : List (List ZoneData)) → AreIdentified (map said_in gs) → (at : ℕ) → Lacks gs at → ⊥
 no_lack gs none at h = true≢false (sym h.2 ∙ all_in_form gs none (at - 1) h.0 h.1.1)
 
-first_lack : (gs : List (List Entry)) (at : ℕ) → IsFirstUnidentified (map said_in gs) at → Lacks gs at × ((p : ℕ) → Lacks gs p → at ≤ p)
+first_lack : (gs : List (List ZoneData)) (at : ℕ) → IsFirstUnidentified (map said_in gs) at → Lacks gs at × ((p : ℕ) → Lacks gs p → at ≤ p)
 first_lack gs at h = (found, least)
   where
     below : h.place < length (map said_in gs)
     below = (position-Some unidentified (map said_in gs) h.place (said_in []) h.here).0
 
-    item : (g : List Entry) × (slice_get gs h.place ≡ Some g) × (has_no_identifier g ≡ true)
+    item : (g : List ZoneData) × (slice_get gs h.place ≡ Some g) × (has_no_identifier g ≡ true)
     item = pick (slice_get gs h.place) refl
       where
         passes : unidentified (Rattle.std.proofs.Common.get_or (map said_in gs) h.place (said_in [])) ≡ true
@@ -72,7 +72,7 @@ first_lack gs at h = (found, least)
         read : slice_get (map said_in gs) h.place ≡ Some (Rattle.std.proofs.Common.get_or (map said_in gs) h.place (said_in []))
         read = slice_get-get_or (map said_in gs) h.place (said_in []) below
 
-        pick : (o : Option (List Entry)) → slice_get gs h.place ≡ o → (g : List Entry) × (slice_get gs h.place ≡ Some g) × (has_no_identifier g ≡ true)
+        pick : (o : Option (List ZoneData)) → slice_get gs h.place ≡ o → (g : List ZoneData) × (slice_get gs h.place ≡ Some g) × (has_no_identifier g ≡ true)
         pick None e = absurd (none-some _ (sym (slice_get-map said_in gs h.place ∙ ap (option_map said_in) e) ∙ read))
         pick (Some g) e =
             let same : said_in g ≡ Rattle.std.proofs.Common.get_or (map said_in gs) h.place (said_in []) = same_Some _ _ (sym (slice_get-map said_in gs h.place ∙ ap (option_map said_in) e) ∙ read) in
@@ -99,7 +99,7 @@ first_lack gs at h = (found, least)
 
 -- ---- 602
 
-name_at_place : (gs : List (List Entry)) (k : ℕ) (g : List Entry) → slice_get gs k ≡ Some g → slice_get (names_of (map said_in gs)) k ≡ Some (name_in g)
+name_at_place : (gs : List (List ZoneData)) (k : ℕ) (g : List ZoneData) → slice_get gs k ≡ Some g → slice_get (names_of (map said_in gs)) k ≡ Some (name_in g)
 name_at_place gs k g e =
     slice_get-map (λ s. s.name) (map said_in gs) k ∙ (ap (option_map (λ s. s.name)) (slice_get-map said_in gs k) ∙ ap (λ o. option_map (λ s. s.name) (option_map said_in o)) e)
 
@@ -108,7 +108,7 @@ distinct_apart ns distinct i k m n lower h g =
     let apart = apart_from_distinct is_name ns i k m distinct lower (slice_get_within ns k n g) in
     sym (ap (λ x. is_name x n) (get_or_from_slice_get ns i m m h) ∙ refl) ∙ (ap (is_name (Rattle.std.proofs.Common.get_or ns i m)) (sym (get_or_from_slice_get ns k n m g)) ∙ apart)
 
-no_repeat : (gs : List (List Entry)) → IsDistinct is_name (names_of (map said_in gs)) → (at : ℕ) → Repeats gs at → ⊥
+no_repeat : (gs : List (List ZoneData)) → IsDistinct is_name (names_of (map said_in gs)) → (at : ℕ) → Repeats gs at → ⊥
 no_repeat gs distinct at h =
     let m = h.0 in
     let name = h.3 in
@@ -146,17 +146,17 @@ mapped_at f [] k y e = absurd (none-some y e)
 mapped_at f (x ∷ xs) zero y e = (x, refl, same_Some (f x) y e)
 mapped_at f (x ∷ xs) (suc k) y e = mapped_at f xs k y e
 
-group_named : (gs : List (List Entry)) (k : ℕ) (n : Name) → slice_get (names_of (map said_in gs)) k ≡ Some n → (g : List Entry) × (slice_get gs k ≡ Some g) × (name_in g ≡ n)
+group_named : (gs : List (List ZoneData)) (k : ℕ) (n : Name) → slice_get (names_of (map said_in gs)) k ≡ Some n → (g : List ZoneData) × (slice_get gs k ≡ Some g) × (name_in g ≡ n)
 group_named gs k n e =
     let s = mapped_at (λ s. s.name) (map said_in gs) k n e in
     let g = mapped_at said_in gs k s.0 s.1 in
     (g.0, g.1, ap (λ s. s.name) g.2 ∙ s.2)
 
-module _ (gs : List (List Entry)) (led : AllByRecursion IsLed gs) (form : AreIdentified (map said_in gs)) where
-  pub own_name : (k : ℕ) (g : List Entry) → slice_get gs k ≡ Some g → IsNamed g (name_in g)
+module _ (gs : List (List ZoneData)) (led : AllByRecursion IsLed gs) (form : AreIdentified (map said_in gs)) where
+  pub own_name : (k : ℕ) (g : List ZoneData) → slice_get gs k ≡ Some g → IsNamed g (name_in g)
   own_name k g e = is_named g (all_at IsLed gs led k g e) (all_in_form gs form k g e)
 
-  named_by : (k : ℕ) (g : List Entry) (n : Name) → slice_get gs k ≡ Some g → name_in g ≡ n → IsNamed g n
+  named_by : (k : ℕ) (g : List ZoneData) (n : Name) → slice_get gs k ≡ Some g → name_in g ≡ n → IsNamed g n
   named_by k g n e same = subst (IsNamed g) same (own_name k g e)
 
   first_repeat : (at : ℕ) → IsFirstRepeat (names_of (map said_in gs)) at → Repeats gs at × ((p : ℕ) → Repeats gs p → at ≤ p)
@@ -204,9 +204,9 @@ module _ (gs : List (List Entry)) (led : AllByRecursion IsLed gs) (form : AreIde
 
 -- ---- 603
 
-abbrev pub NoWord : List (List Entry) → List Entry → Type 0
+abbrev pub NoWord : List (List ZoneData) → List ZoneData → Type 0
 NoWord ws g = (text : List ℕ) × (first (values (codes "DIP") g) ≡ Some text)
-    × ((name : Name) → PointsTo text name → (m : ℕ) (word : List Entry) → At ws m word → ¬ (IsNamed word name))
+    × ((name : Name) → PointsTo text name → (m : ℕ) (word : List ZoneData) → At ws m word → ¬ (IsNamed word name))
 
 find_there : {X : Type 0} (test : X → Bool) (xs : List X) (x : X) → find test xs ≡ Some x → (k : ℕ) × (slice_get xs k ≡ Some x) × (test x ≡ true)
 find_there test [] x e = absurd (none-some x e)
@@ -226,16 +226,16 @@ find_lacks {X} test (y ∷ ys) e k x h = go (test y) refl e k h (find_lacks test
     go false f e (suc k) h more = more e k x h
 
 -- the class of a record whose DIP leads to a type, with its name
-abbrev pub named_class : KindCodes → List Entry → Option (List ℕ) → Name × Rattle.edi_schema.specs.declared.class.Class.Class
+abbrev pub named_class : KindCodes → List ZoneData → Option (List ℕ) → Name × Rattle.edi_schema.specs.declared.class.Class.Class
 named_class kinds g t = (name_in g, class_by kinds (said_in g) t)
 
-module _ (ws : List (List Entry)) (led : AllByRecursion IsLed ws) (form : AreIdentified (map said_in ws)) where
+module _ (ws : List (List ZoneData)) (led : AllByRecursion IsLed ws) (form : AreIdentified (map said_in ws)) where
   -- what word_in finds is named so
-  pub word_named : (text : List ℕ) (w : Said) → word_in (map said_in ws) text ≡ Some w → (name : Name) × (k : ℕ) × (g : List Entry) × (class_of text ≡ Some name) × (slice_get ws k ≡ Some g) × (said_in g ≡ w) × IsNamed g name
+  pub word_named : (text : List ℕ) (w : Said) → word_in (map said_in ws) text ≡ Some w → (name : Name) × (k : ℕ) × (g : List ZoneData) × (class_of text ≡ Some name) × (slice_get ws k ≡ Some g) × (said_in g ≡ w) × IsNamed g name
   word_named text w e = go (class_of text) refl e
     where
       go : (o : Option Name) → class_of text ≡ o → option_and_then (λ name. find (λ word. is_name name word.name) (map said_in ws)) o ≡ Some w
-          → (name : Name) × (k : ℕ) × (g : List Entry) × (class_of text ≡ Some name) × (slice_get ws k ≡ Some g) × (said_in g ≡ w) × IsNamed g name
+          → (name : Name) × (k : ℕ) × (g : List ZoneData) × (class_of text ≡ Some name) × (slice_get ws k ≡ Some g) × (said_in g ≡ w) × IsNamed g name
       go None f e = absurd (none-some w e)
       go (Some name) f e =
           let found = find_there (λ word. is_name name word.name) (map said_in ws) w e in
@@ -244,7 +244,7 @@ module _ (ws : List (List Entry)) (led : AllByRecursion IsLed ws) (form : AreIde
           (name, found.0, group.0, f, group.1, group.2, named_by ws led form found.0 group.0 name group.1 (sym same))
 
   -- a record with a class has a word
-  pub has_word : (kinds : KindCodes) (g : List Entry) (p : Name × Rattle.edi_schema.specs.declared.class.Class.Class) → class_in kinds (map said_in ws) (said_in g) ≡ Some p → NoWord ws g → ⊥
+  pub has_word : (kinds : KindCodes) (g : List ZoneData) (p : Name × Rattle.edi_schema.specs.declared.class.Class.Class) → class_in kinds (map said_in ws) (said_in g) ≡ Some p → NoWord ws g → ⊥
   has_word kinds g p e none = go (word_in (map said_in ws) none.0) refl
     where
       typed : option_map (named_class kinds g) (type_by (map said_in ws) (Some none.0)) ≡ Some p
@@ -258,7 +258,7 @@ module _ (ws : List (List Entry)) (led : AllByRecursion IsLed ws) (form : AreIde
           none.2 found.0 (points_said none.0 found.0 found.3) (suc found.1) found.2 (omega arith, ap (slice_get ws) place ∙ found.4) found.6
 
   -- a record without a class has none
-  pub lacks_class : (kinds : KindCodes) (g : List Entry) → class_in kinds (map said_in ws) (said_in g) ≡ None → NoWord ws g
+  pub lacks_class : (kinds : KindCodes) (g : List ZoneData) → class_in kinds (map said_in ws) (said_in g) ≡ None → NoWord ws g
   lacks_class kinds g e = go (first (values (codes "DIP") g)) refl e
     where
       by_word : (text : List ℕ) → first (values (codes "DIP") g) ≡ Some text → (o : Option Said) → word_in (map said_in ws) text ≡ o
@@ -278,24 +278,24 @@ module _ (ws : List (List Entry)) (led : AllByRecursion IsLed ws) (form : AreIde
       go None f e = absurd (none-some _ (sym e))
       go (Some text) f e = by_word text f (word_in (map said_in ws) text) refl e
 
-  pub some_class : (kinds : KindCodes) (gs : List (List Entry)) (found : Classes) → map (class_in kinds (map said_in ws)) (map said_in gs) ≡ map Some found
-      → (k : ℕ) (g : List Entry) → slice_get gs k ≡ Some g → (p : Name × Rattle.edi_schema.specs.declared.class.Class.Class) × (class_in kinds (map said_in ws) (said_in g) ≡ Some p)
+  pub some_class : (kinds : KindCodes) (gs : List (List ZoneData)) (found : Classes) → map (class_in kinds (map said_in ws)) (map said_in gs) ≡ map Some found
+      → (k : ℕ) (g : List ZoneData) → slice_get gs k ≡ Some g → (p : Name × Rattle.edi_schema.specs.declared.class.Class.Class) × (class_in kinds (map said_in ws) (said_in g) ≡ Some p)
   some_class kinds [] found e k g h = absurd (none-some g h)
-  some_class kinds (x ∷ xs) [] e k g h = absurd (none-some _ (ap Rattle.edi_line.specs.Entry.first (sym e)))
-  some_class kinds (x ∷ xs) (p ∷ found) e zero g h = (p, ap (λ y. class_in kinds (map said_in ws) (said_in y)) (sym (same_Some x g h)) ∙ same_Some _ _ (ap Rattle.edi_line.specs.Entry.first e))
+  some_class kinds (x ∷ xs) [] e k g h = absurd (none-some _ (ap Rattle.edi_line.specs.ZoneData.first (sym e)))
+  some_class kinds (x ∷ xs) (p ∷ found) e zero g h = (p, ap (λ y. class_in kinds (map said_in ws) (said_in y)) (sym (same_Some x g h)) ∙ same_Some _ _ (ap Rattle.edi_line.specs.ZoneData.first e))
   some_class kinds (x ∷ xs) (p ∷ found) e (suc k) g h = some_class kinds xs found (ap (Rattle.std.proofs.Common.drop 1) e) k g h
 
-  no_lacking : (kinds : KindCodes) (gs : List (List Entry)) (found : Classes) → map (class_in kinds (map said_in ws)) (map said_in gs) ≡ map Some found
-      → (at : ℕ) (g : List Entry) → At gs at g → NoWord ws g → ⊥
+  no_lacking : (kinds : KindCodes) (gs : List (List ZoneData)) (found : Classes) → map (class_in kinds (map said_in ws)) (map said_in gs) ≡ map Some found
+      → (at : ℕ) (g : List ZoneData) → At gs at g → NoWord ws g → ⊥
   no_lacking kinds gs found e at g here none =
       let p = some_class kinds gs found e (at - 1) g here.1 in
       has_word kinds g p.0 p.1 none
 
-  first_lacking : (kinds : KindCodes) (gs : List (List Entry)) (at : ℕ) → IsFirstLacking (class_in kinds (map said_in ws)) (map said_in gs) at
-      → ((g : List Entry) × At gs at g × NoWord ws g) × ((p : ℕ) (g : List Entry) → At gs p g → NoWord ws g → at ≤ p)
+  first_lacking : (kinds : KindCodes) (gs : List (List ZoneData)) (at : ℕ) → IsFirstLacking (class_in kinds (map said_in ws)) (map said_in gs) at
+      → ((g : List ZoneData) × At gs at g × NoWord ws g) × ((p : ℕ) (g : List ZoneData) → At gs p g → NoWord ws g → at ≤ p)
   first_lacking kinds gs at h = (found, least)
     where
-      found : (g : List Entry) × At gs at g × NoWord ws g
+      found : (g : List ZoneData) × At gs at g × NoWord ws g
       found =
           let g = mapped_at said_in gs h.place h.item h.here in
           let place : at - 1 ≡ h.place = omega (arith, h.at_is) in
@@ -304,7 +304,7 @@ module _ (ws : List (List Entry)) (led : AllByRecursion IsLed ws) (form : AreIde
       front : map (class_in kinds (map said_in ws)) (map said_in (take h.place gs)) ≡ map Some h.found
       front = ap (map (class_in kinds (map said_in ws))) (sym (Rattle.std.proofs.lemmas.List.take-map said_in h.place gs)) ∙ h.front
 
-      least : (p : ℕ) (g : List Entry) → At gs p g → NoWord ws g → at ≤ p
+      least : (p : ℕ) (g : List ZoneData) → At gs p g → NoWord ws g → at ≤ p
       least p g here none = go (Rattle.std.proofs.lemmas.Bool.cases_order (p - 1) h.place)
         where
           go : (p - 1 ≡ h.place) ⊎ ((p - 1 < h.place) ⊎ (h.place < p - 1)) → at ≤ p
@@ -316,11 +316,11 @@ module _ (ws : List (List Entry)) (led : AllByRecursion IsLed ws) (form : AreIde
 
 -- ---- the steps
 
-module _ (cs ws : List (List Entry)) (cs_led : AllByRecursion IsLed cs) (ws_led : AllByRecursion IsLed ws) (kinds : KindCodes) where
-  no_word_here : (p : ℕ) → HasNoWord cs ws p → (g : List Entry) × At cs p g × NoWord ws g
+module _ (cs ws : List (List ZoneData)) (cs_led : AllByRecursion IsLed cs) (ws_led : AllByRecursion IsLed ws) (kinds : KindCodes) where
+  no_word_here : (p : ℕ) → HasNoWord cs ws p → (g : List ZoneData) × At cs p g × NoWord ws g
   no_word_here p h = (h.0, h.2, (h.1, h.3, h.4))
 
-  word_missing : (p : ℕ) → ((g : List Entry) × At cs p g × NoWord ws g) → HasNoWord cs ws p
+  word_missing : (p : ℕ) → ((g : List ZoneData) × At cs p g × NoWord ws g) → HasNoWord cs ws p
   word_missing p h = (h.0, h.2.0, h.1, h.2.1, h.2.2)
 
   not_word : Dic ≡ Scd → ⊥
@@ -373,7 +373,7 @@ module _ (cs ws : List (List Entry)) (cs_led : AllByRecursion IsLed cs) (ws_led 
   class_603 : (at : ℕ) → AreNamed (map said_in cs) (map said_in ws) kinds → IsFirstLacking (class_in kinds (map said_in ws)) (map said_in cs) at → IsFirstEntry cs ws Scd 603 at
   class_603 at named h = record { is = no_word refl refl (word_missing at (first_lacking ws ws_led named.words_identified kinds cs at h).0); least = least (first_lacking ws ws_led named.words_identified kinds cs at h).1 }
     where
-      least : ((p : ℕ) (g : List Entry) → At cs p g → NoWord ws g → at ≤ p) → (other : Source) (r p : ℕ) → BreaksEntry cs ws other r p → (step cs ws Scd 603 < step cs ws other r) ⊎ ((step cs ws Scd 603 ≡ step cs ws other r) × (at ≤ p))
+      least : ((p : ℕ) (g : List ZoneData) → At cs p g → NoWord ws g → at ≤ p) → (other : Source) (r p : ℕ) → BreaksEntry cs ws other r p → (step cs ws Scd 603 < step cs ws other r) ⊎ ((step cs ws Scd 603 ≡ step cs ws other r) × (at ≤ p))
       least first Scd r p (lacks_identifier g l) = absurd (no_lack cs named.classes_identified p l)
       least first Dic r p (lacks_identifier g l) = absurd (no_lack ws named.words_identified p l)
       least first Scd r p (repeats_name g l) = absurd (no_repeat cs named.classes_distinct p l)

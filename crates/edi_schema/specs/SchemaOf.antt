@@ -3,7 +3,7 @@ use Rattle.std.specs.Prelude.{◌≡◌, ℕ, Bool, false, ◌&&◌, ◌||◌, n
 use Rattle.std.specs.List.{AllZip}
 use Rattle.std.specs.Map.{lookup, keys_of}
 use Rattle.std.specs.Str.{bytes_eq}
-use Rattle.edi_line.specs.Entry.{Entry}
+use Rattle.edi_line.specs.ZoneData.{ZoneData}
 use Rattle.edi_line.specs.LineRules.{IsZonesOf}
 use Rattle.edi_line.specs.Zones.{IsFileOf}
 use Rattle.edi_record.specs.declared.name.Name.{Name}
@@ -15,11 +15,11 @@ use Rattle.edi_schema.specs.Sorted.{AlwaysRises}
 use Rattle.edi_schema.specs.declared.class.Class.{Class}
 
 -- the groups of a file's records
-abbrev pub IsGroupsOf : List ℕ → List (List Entry) → Type 0
-IsGroupsOf b groups = (zones : List Entry) × (cse : Option Entry) × IsZonesOf b zones × IsFileOf zones cse groups
+abbrev pub IsGroupsOf : List ℕ → List (List ZoneData) → Type 0
+IsGroupsOf b groups = (zones : List ZoneData) × (cse : Option ZoneData) × IsZonesOf b zones × IsFileOf zones cse groups
 
 -- the name of a record of either file
-pub record IsNamed (group : List Entry) (name : Name) : Type 0 where
+pub record IsNamed (group : List ZoneData) (name : Name) : Type 0 where
   pub rty : first (values (codes "RTY") group) ≡ Some name.rty
   pub rid : first (values (codes "RID") group) ≡ Some name.rid
 
@@ -27,11 +27,11 @@ pub record IsNamed (group : List Entry) (name : Name) : Type 0 where
 abbrev pub Words : Type 0
 Words = List (Name × Option (List ℕ))
 
-abbrev pub StatesWord : List Entry → Name × Option (List ℕ) → Type 0
+abbrev pub StatesWord : List ZoneData → Name × Option (List ℕ) → Type 0
 StatesWord group word = IsNamed group word.0 × (word.1 ≡ first (values (codes "TYP") group))
 
 -- the TYP that the first DIP leads to
-pub data HasType (words : Words) (group : List Entry) : Option (List ℕ) → Type 0 where
+pub data HasType (words : Words) (group : List ZoneData) : Option (List ℕ) → Type 0 where
   none : values (codes "DIP") group ≡ [] → HasType words group None
   some : {text : List ℕ} {name : Name} {typ : Option (List ℕ)} → first (values (codes "DIP") group) ≡ Some text
       → PointsTo text name
@@ -49,7 +49,7 @@ is_number_type None = false
 is_number_type (Some typ) = bytes_eq typ (codes "N") || bytes_eq typ (codes "R")
 
 -- a class of the schema: its role by its codes, its letter by its word
-pub record StatesClass (kinds : KindCodes) (words : Words) (group : List Entry) (entry : Name × Class) : Type 0 where
+pub record StatesClass (kinds : KindCodes) (words : Words) (group : List ZoneData) (entry : Name × Class) : Type 0 where
   pub typ : Option (List ℕ)
   pub named : IsNamed group entry.0
   pub has_type : HasType words group typ
@@ -59,7 +59,7 @@ pub record StatesClass (kinds : KindCodes) (words : Words) (group : List Entry) 
 
 -- The schema of the records of two files and four codes: the class of each record of the first, in the order of their
 -- names.
-pub record IsSchemaOf (classes entries : List (List Entry)) (kinds : KindCodes) (s : Classes) : Type 0 where
+pub record IsSchemaOf (classes entries : List (List ZoneData)) (kinds : KindCodes) (s : Classes) : Type 0 where
   pub words : Words
   pub stated : Classes
   pub each_word : AllZip StatesWord entries words

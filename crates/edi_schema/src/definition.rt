@@ -1,7 +1,7 @@
 //! What is read of the records of a schema's two files.
 
 ghost use Rattle.std.specs.Prelude.{◌≡◌, map, IfOk};
-ghost use Rattle.edi_line.specs.Entry.{entries};
+ghost use Rattle.edi_line.specs.ZoneData.{entries};
 ghost use Rattle.edi_line.specs.Zones.{groups_of};
 ghost use Rattle.edi_schema.specs.inner.Drafts.{said, said_in};
 

@@ -1,6 +1,6 @@
 ghost use Rattle.std.specs.Prelude.{◌≡◌, ◌<◌, ◌≤◌, true, length, map, Some, option_map, IfOk, IfErr, IfSome, OnOk};
 ghost use Rattle.edi_line.specs.Bytes.{most_records};
-ghost use Rattle.edi_line.specs.Entry.{entries};
+ghost use Rattle.edi_line.specs.ZoneData.{entries};
 ghost use Rattle.edi_line.specs.LineRules.{IsZonesOf, BreaksLineRule};
 ghost use Rattle.edi_line.specs.Zones.{HasShape};
 ghost use Rattle.edi_line.specs.Refusal.{IsUnbroken, IsLeastBroken};

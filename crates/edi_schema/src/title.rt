@@ -1,7 +1,7 @@
 //! The names of the records of a schema's files, borrowed from their zones.
 
 ghost use Rattle.std.specs.Prelude.{◌≡◌, ◌++◌, List, ℕ};
-ghost use Rattle.edi_line.specs.Entry.{entries};
+ghost use Rattle.edi_line.specs.ZoneData.{entries};
 ghost use Rattle.edi_hash.specs.Keys.{Holds};
 ghost use Rattle.edi_schema.specs.inner.Drafts.{name_in, named, name_parts};
 

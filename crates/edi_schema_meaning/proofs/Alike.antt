@@ -1,7 +1,7 @@
 -- Two schemas with one text answer alike.
 use Rattle.std.proofs.Common.{◌≡◌, ℕ, List, sym, ◌∙◌, subst}
 use Rattle.edi_schema.specs.Classes.{Classes, IsSchema}
-use Rattle.edi_plan.specs.Plans.{Drawing}
+use Rattle.edi_plan.specs.Plans.{PlanData}
 use Rattle.edi_compare.specs.Pairings.{PairingCarries}
 use Rattle.edi_compare.specs.Rules.{IsAccepted}
 use Rattle.edi_compare.specs.Verdicts.{IsVerdict}
@@ -19,14 +19,14 @@ use Rattle.edi_schema_meaning.specs.Answers.{AnswerAlike}
 use Rattle.edi_schema_meaning.specs.Laws.{OneTextOneAnswer}
 
 module _ (s : Classes) (keeps : IsSchema s) where
-  pairing_in : (p q : Drawing) (pairing : Pairing) → PairingCarries (meaning s) p q pairing → PairingCarries s (renamed (embed s) p) (renamed (embed s) q) pairing
+  pairing_in : (p q : PlanData) (pairing : Pairing) → PairingCarries (meaning s) p q pairing → PairingCarries s (renamed (embed s) p) (renamed (embed s) q) pairing
   pairing_in p q pairing h = record {
     all_paired = h.all_paired ∙ sym (length_renamed (embed s) p);
     all_directed = h.all_directed ∙ sym (length_renamed (embed s) p);
     carries = carried_in s (meaning s) (embed s) (unembed s) (back_again s) (partner_placed s keeps) _ _ p q h.carries;
   }
 
-  pairing_back : (p q : Drawing) (pairing : Pairing) → PairingCarries s (renamed (embed s) p) (renamed (embed s) q) pairing → PairingCarries (meaning s) p q pairing
+  pairing_back : (p q : PlanData) (pairing : Pairing) → PairingCarries s (renamed (embed s) p) (renamed (embed s) q) pairing → PairingCarries (meaning s) p q pairing
   pairing_back p q pairing h = record {
     all_paired = h.all_paired ∙ length_renamed (embed s) p;
     all_directed = h.all_directed ∙ length_renamed (embed s) p;

@@ -16,7 +16,7 @@ use Rattle.edi_schema.specs.declared.role.Role.{Role}
 use Rattle.edi_schema.specs.declared.role.Role.TheVariants.{Initial, Final, Left, Right, Plain}
 use Rattle.edi_plan.specs.Joined.{beside}
 use Rattle.edi_plan.specs.PlanOf.{place_named}
-use Rattle.edi_plan.specs.Plans.{Drawing, IsPlace, record_at}
+use Rattle.edi_plan.specs.Plans.{PlanData, IsPlace, record_at}
 use Rattle.edi_plan.specs.ReferenceRules.{BreaksReferenceRule, JoinsArcTo, Names}
 use Rattle.edi_plan.specs.ReferenceRules.BreaksReferenceRule.{repeats_name, lacks_class, lacks_attribute_class, leaves_subset, names_nothing, joins_wrong, repeats_side}
 use Rattle.edi_plan.specs.Sides.{Side}
@@ -120,7 +120,7 @@ module _ (n : Name) (plain : IsPlainName n) where
       (reference_back s (probe (node_records n)) node_sheet node_stated (node_read s) 302 1 (lit< tt) h.1.is)
 
   -- it is accepted where the class is known
-  node_plan : ℕ → Role → Drawing
+  node_plan : ℕ → Role → PlanData
   node_plan k role = record { cse = None; list = record { kind = Pno; class = k; role = role; points = spot 0 0 ∷ []; attributes = []; extras = []; ends = [] } ∷ [] }
 
   pub node_accepted : (s : Classes) (role : Role) → role_named s n ≡ Some role → IsAccepted s (probe (node_records n))
@@ -240,7 +240,7 @@ module _ (n : Name) (plain : IsPlainName n) where
   start_read : (s : Classes) → RecordsHold s (probe (start_records n))
   start_read s = probe_records (start_records n) (can_arc, (can_node, (can_join, tt))) (lit≤ tt) s
 
-  start_plan : ℕ → Role → Drawing
+  start_plan : ℕ → Role → PlanData
   start_plan k role = record {
     cse = None;
     list = record { kind = Par; class = k; role = role; points = spot 0 0 ∷ spot 1 0 ∷ []; attributes = []; extras = []; ends = [] }

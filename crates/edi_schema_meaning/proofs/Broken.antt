@@ -7,7 +7,7 @@ use Rattle.edi_record.specs.declared.record.Kind.{Kind}
 use Rattle.edi_record.specs.declared.record.Point.{Point}
 use Rattle.edi_schema.specs.declared.role.Role.{Role}
 use Rattle.edi_schema.specs.declared.role.Role.TheVariants.{Left, Right}
-use Rattle.edi_plan.specs.Plans.{Drawing, is_object, record_at}
+use Rattle.edi_plan.specs.Plans.{PlanData, is_object, record_at}
 use Rattle.edi_plan.specs.Sides.{Side}
 use Rattle.edi_plan.specs.declared.record.PlanRecord.{PlanRecord}
 use Rattle.edi_topo.specs.TopologyRules.{AreEqualNodes, BreaksTopologyRule, HasPoints}
@@ -17,7 +17,7 @@ use Rattle.edi_rank.specs.EqualObjects.BreaksObjectRule.{repeats_object}
 use Rattle.edi_rank.specs.Keys.{is_piece}
 use Rattle.edi_schema_meaning.proofs.Renamed.{ends_at, extras_at, filter_map-map, kind_at, place_back, place_in, points_at, record_in, renamed, renamed_attribute, renamed_record, role_at}
 
-module _ (f : ℕ → ℕ) (p : Drawing) where
+module _ (f : ℕ → ℕ) (p : PlanData) where
   -- ---- sides
 
   side_in : (a : ℕ) (role : Role) (x : ℕ) → Side p a role x → Side (renamed f p) a role x

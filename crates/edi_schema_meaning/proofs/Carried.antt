@@ -3,7 +3,7 @@ use Rattle.std.proofs.Common.{◌≡◌, ℕ, Bool, true, false, cond, List, map
 use Rattle.std.proofs.lemmas.List.Sorted.{IsPermutation-map}
 use Rattle.edi_schema.specs.Classes.{Classes, partner_of}
 use Rattle.edi_schema.specs.Roles.{is_plain}
-use Rattle.edi_plan.specs.Plans.{Drawing, record_at}
+use Rattle.edi_plan.specs.Plans.{PlanData, record_at}
 use Rattle.edi_plan.specs.declared.record.PlanAttribute.{PlanAttribute}
 use Rattle.edi_plan.specs.declared.record.PlanRecord.{PlanRecord}
 use Rattle.edi_rank.specs.Same.{Carries, CarriesRecord, OneToOne, Same, class_after, has_turned_arc}
@@ -49,7 +49,7 @@ module _ (s u : Classes) (f g : ℕ → ℕ) (again : (k : ℕ) → g (f k) ≡ 
     others = c.others;
   }
 
-  pub carried_in : (to : ℕ → ℕ) (turned : ℕ → Bool) (p q : Drawing) → Carries u to turned p q → Carries s to turned (renamed f p) (renamed f q)
+  pub carried_in : (to : ℕ → ℕ) (turned : ℕ → Bool) (p q : PlanData) → Carries u to turned p q → Carries s to turned (renamed f p) (renamed f q)
   carried_in to turned p q c = record {
     places = resized to _ _ _ _ (sym (length_renamed f p)) (sym (length_renamed f q)) c.places;
     arcs = λ i h t. kind_at f p i ∙ c.arcs i (place_back f p i h) t;
@@ -60,7 +60,7 @@ module _ (s u : Classes) (f g : ℕ → ℕ) (again : (k : ℕ) → g (f k) ≡ 
         (subst (CarriesRecord s to turned i (renamed_record f (record_at p i))) (sym (record_in f q (to i) (c.places.within i there))) (record_carried to turned i (record_at p i) (record_at q (to i)) (c.each i there)));
   }
 
-  pub carried_back : (to : ℕ → ℕ) (turned : ℕ → Bool) (p q : Drawing) → Carries s to turned (renamed f p) (renamed f q) → Carries u to turned p q
+  pub carried_back : (to : ℕ → ℕ) (turned : ℕ → Bool) (p q : PlanData) → Carries s to turned (renamed f p) (renamed f q) → Carries u to turned p q
   carried_back to turned p q c =
       let places = resized to _ _ _ _ (length_renamed f p) (length_renamed f q) c.places in
       record {
@@ -72,8 +72,8 @@ module _ (s u : Classes) (f g : ℕ → ℕ) (again : (k : ℕ) → g (f k) ≡ 
             (subst (CarriesRecord s to turned i (record_at (renamed f p) i)) (record_in f q (to i) (places.within i h)) (c.each i (place_in f p i h))));
       }
 
-  pub same_in : (p q : Drawing) → Same u p q → Same s (renamed f p) (renamed f q)
+  pub same_in : (p q : PlanData) → Same u p q → Same s (renamed f p) (renamed f q)
   same_in p q h = (h.0, h.1, carried_in h.0 h.1 p q h.2)
 
-  pub same_back : (p q : Drawing) → Same s (renamed f p) (renamed f q) → Same u p q
+  pub same_back : (p q : PlanData) → Same s (renamed f p) (renamed f q) → Same u p q
   same_back p q h = (h.0, h.1, carried_back h.0 h.1 p q h.2)

@@ -1,7 +1,7 @@
 -- Every answer to a sheet is that under what the schema means.
 use Rattle.std.proofs.Common.{◌≡◌, ℕ, List, sym, ap, ◌∙◌, subst}
 use Rattle.edi_schema.specs.Classes.{Classes, IsSchema}
-use Rattle.edi_plan.specs.Plans.{Drawing}
+use Rattle.edi_plan.specs.Plans.{PlanData}
 use Rattle.edi_rank.proofs.SameLaws.{same_refl}
 use Rattle.edi_rank.specs.InOrder.{IsInOrder}
 use Rattle.edi_rank.specs.Same.{Same}
@@ -34,17 +34,17 @@ module _ (s : Classes) where
   pub accepted_back : (b : List ℕ) → IsAccepted s b → IsAccepted (meaning s) b
   accepted_back b h = accepted s (meaning s) (unembed s) (embed s) linked_back linked_in b h
 
-  pub held_in : (b : List ℕ) → IsAccepted (meaning s) b → (p : Drawing) → IsPlanOfFile (meaning s) b p → IsPlanOfFile s b (renamed (embed s) p)
+  pub held_in : (b : List ℕ) → IsAccepted (meaning s) b → (p : PlanData) → IsPlanOfFile (meaning s) b p → IsPlanOfFile s b (renamed (embed s) p)
   held_in b h p plan = plan_held (meaning s) s (embed s) (unembed s) linked_in linked_back b (references_held (meaning s) b h) p plan
 
-  pub held_back : (b : List ℕ) → IsAccepted s b → (p : Drawing) → IsPlanOfFile s b p → IsPlanOfFile (meaning s) b (renamed (unembed s) p)
+  pub held_back : (b : List ℕ) → IsAccepted s b → (p : PlanData) → IsPlanOfFile s b p → IsPlanOfFile (meaning s) b (renamed (unembed s) p)
   held_back b h p plan = plan_held s (meaning s) (unembed s) (embed s) linked_back linked_in b (references_held s b h) p plan
 
-  pub held_again : (b : List ℕ) → IsAccepted s b → (p : Drawing) → IsPlanOfFile s b p → renamed (embed s) (renamed (unembed s) p) ≡ p
+  pub held_again : (b : List ℕ) → IsAccepted s b → (p : PlanData) → IsPlanOfFile s b p → renamed (embed s) (renamed (unembed s) p) ≡ p
   held_again b h p plan =
       plan_again s plan.0 p (nameable b plan.0 plan.1) (attributed s plan.0.list ((references_held s b h).1 plan.0 plan.1)) plan.2
 
-  laid_out : (b : List ℕ) → IsAccepted (meaning s) b → (p : Drawing) → IsPlanOfFile (meaning s) b p → layout s (renamed (embed s) p) ≡ layout (meaning s) p
+  laid_out : (b : List ℕ) → IsAccepted (meaning s) b → (p : PlanData) → IsPlanOfFile (meaning s) b p → layout s (renamed (embed s) p) ≡ layout (meaning s) p
   laid_out b h p plan =
       layout_same s p (attribute_classes (meaning s) plan.0 p p ((references_held (meaning s) b h).1 plan.0 plan.1) plan.2 (same_refl (meaning s) p))
 

@@ -9,7 +9,7 @@ use Rattle.edi_record.specs.declared.record.Kind.{Kind}
 use Rattle.edi_record.specs.Orders.{extra_cmp, point_cmp, text_cmp, value_cmp}
 use Rattle.edi_schema.specs.Sorted.{NeverFalls, insert_sorted, sort_by}
 use Rattle.edi_plan.specs.Orders.{attribute_cmp}
-use Rattle.edi_plan.specs.Plans.{Drawing, IsPlace, is_arc, kind_rank, others_of, record_at, first_of}
+use Rattle.edi_plan.specs.Plans.{PlanData, IsPlace, is_arc, kind_rank, others_of, record_at, first_of}
 use Rattle.edi_plan.specs.declared.record.PlanAttribute.{PlanAttribute}
 use Rattle.edi_plan.specs.declared.record.PlanEnd.{PlanEnd}
 use Rattle.edi_plan.specs.declared.record.PlanRecord.{PlanRecord}
@@ -100,7 +100,7 @@ module _ (f : ℕ → ℕ) (up : (a b : ℕ) → nat_cmp (f a) (f b) ≡ nat_cmp
   objects_compared a b = λ i. ordering_then (up a.class b.class i) (ordering_then (attributes_compared a.attributes b.attributes i)
       (ordering_then (slice_cmp extra_cmp a.extras b.extras) (slices_same link_key_cmp renamed_link links_compared a.pieces b.pieces i)))
 
-  module _ (p : Drawing) (number : ℕ → ℕ) where
+  module _ (p : PlanData) (number : ℕ → ℕ) where
     numbered_same : (number : ℕ → ℕ) (e : PlanEnd) → numbered (renamed f p) number e ≡ numbered p number e
     numbered_same number e = λ i. record { kind = kind_at f p e.target i; number = number e.target; sns = e.sns }
 
@@ -208,7 +208,7 @@ module _ (f : ℕ → ℕ) (up : (a b : ℕ) → nat_cmp (f a) (f b) ≡ nat_cmp
     others_same : (es : List PlanEnd) → map (numbered (renamed f p) number) es ≡ map (numbered p number) es
     others_same es = λ i. map (λ e. numbered_same number e i) es
 
-  pub in_order_in : (p : Drawing) → IsInOrder p → IsInOrder (renamed f p)
+  pub in_order_in : (p : PlanData) → IsInOrder p → IsInOrder (renamed f p)
   in_order_in p h = record {
     by_type = λ i k less there. subst (λ a. kind_rank a ≤ kind_rank (record_at (renamed f p) k).kind) (sym (kind_at f p i))
         (subst (λ a. kind_rank (record_at p i).kind ≤ kind_rank a) (sym (kind_at f p k)) (h.by_type i k less (place_back f p k there)));
@@ -220,7 +220,7 @@ module _ (f : ℕ → ℕ) (up : (a b : ℕ) → nat_cmp (f a) (f b) ≡ nat_cmp
         subst (λ r. NeverFalls end_cmp (map (numbered (renamed f p) suc) (others_of r))) (sym (record_in f p i t)) (subst (NeverFalls end_cmp) (sym (others_same p suc (others_of (record_at p i)))) (h.others i t));
   }
 
-  pub in_order_back : (p : Drawing) → IsInOrder (renamed f p) → IsInOrder p
+  pub in_order_back : (p : PlanData) → IsInOrder (renamed f p) → IsInOrder p
   in_order_back p h = record {
     by_type = λ i k less there. subst (λ a. kind_rank a ≤ kind_rank (record_at p k).kind) (kind_at f p i)
         (subst (λ a. kind_rank (record_at (renamed f p) i).kind ≤ kind_rank a) (kind_at f p k) (h.by_type i k less (place_in f p k there)));

@@ -12,7 +12,7 @@ use Rattle.edi_record.specs.declared.record.Kind.{Kind}
 use Rattle.edi_record.specs.declared.record.Kind.TheVariants.{Pno, Par, Pfe, Fea, Lnk}
 use Rattle.edi_schema.specs.Classes.{Classes}
 use Rattle.edi_schema.specs.declared.class.Class.{Class}
-use Rattle.edi_plan.specs.Plans.{Drawing, record_at, same_kind}
+use Rattle.edi_plan.specs.Plans.{PlanData, record_at, same_kind}
 use Rattle.edi_plan.specs.declared.record.PlanAttribute.{PlanAttribute}
 use Rattle.edi_plan.specs.declared.record.PlanEnd.{PlanEnd}
 use Rattle.edi_plan.specs.declared.record.PlanRecord.{PlanRecord}
@@ -44,7 +44,7 @@ letter_placed s k att = go (slice_get s (embed s k)) refl
         ∙ (ap (λ c. c.letter) (sym (settled_same e.0.rty e.1 is))
         ∙ sym (ap (λ x. unwrap_or (option_map (λ c. c.letter) (option_map (λ e. e.1) x)) letter_a) (stands s k ∙ ap (option_map meaning_of) h)))
 
-module _ (s : Classes) (p : Drawing) where
+module _ (s : Classes) (p : PlanData) where
   -- ---- numbers
 
   number_same : (k : ℕ) → number_in (meaning s) (renamed (embed s) p) k ≡ number_in (meaning s) p k

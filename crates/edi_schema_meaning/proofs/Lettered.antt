@@ -10,7 +10,7 @@ use Rattle.edi_line.proofs.NumberRead.{number_is}
 use Rattle.edi_line.proofs.Printed.{printed_again}
 use Rattle.edi_line.proofs.ZonesFound.{zones_of}
 use Rattle.edi_line.specs.Bytes.{IsBytes}
-use Rattle.edi_line.specs.Entry.{Entry}
+use Rattle.edi_line.specs.ZoneData.{ZoneData}
 use Rattle.edi_line.specs.Number.{IsNumberText, fraction_digits, size_text}
 use Rattle.edi_line.specs.Printing.{line_numbered, zone_headed}
 use Rattle.edi_line.specs.inner.Number.{fraction_number, number, whole_number}
@@ -26,7 +26,7 @@ use Rattle.edi_record.specs.declared.record.Value.TheVariants.{Bytes}
 use Rattle.edi_record.specs.declared.sheet.Sheet.{Sheet}
 use Rattle.edi_schema.specs.Classes.{Classes, IsSchema, place_of, role_named}
 use Rattle.edi_schema.specs.declared.role.Role.{Role}
-use Rattle.edi_plan.specs.Plans.{Drawing, IsPlace, record_at}
+use Rattle.edi_plan.specs.Plans.{PlanData, IsPlace, record_at}
 use Rattle.edi_plan.specs.inner.Resolving.{is_elsewhere}
 use Rattle.edi_rank.specs.InOrder.{IsInOrder}
 use Rattle.edi_topo.proofs.AtPlaces.{breaks_of_node, none_is_broken}
@@ -61,7 +61,7 @@ not_number m h = none-some m (sym no_number ∙ (number_is [] m).1 h)
 
 -- ---- a node with an attribute of the class, under letters
 
-abbrev letter_plan : ℕ → Role → Drawing
+abbrev letter_plan : ℕ → Role → PlanData
 letter_plan k role = record {
   cse = None;
   list = record { kind = Pno; class = k; role = role; points = spot 0 0 ∷ []; attributes = record { atp = k; tex = None; value = Bytes [] } ∷ []; extras = []; ends = [] } ∷ [];
@@ -168,7 +168,7 @@ letter_bytes L n name letter =
 
 -- ---- the letter of the file
 
-seventh : List Entry → ℕ
+seventh : List ZoneData → ℕ
 seventh zones = (get_or zones 7 (zone_headed (codes "EOMT ") [])).format
 
 module _ (L : Letters) (n : Name) where

@@ -16,7 +16,7 @@ use Rattle.edi_record.specs.declared.record.Value.TheVariants.{Bytes, Number}
 use Rattle.edi_record.specs.declared.sheet.Sheet.{Sheet}
 use Rattle.edi_schema.specs.Classes.{Classes, is_number_named, place_of, role_named}
 use Rattle.edi_schema.specs.declared.role.Role.{Role}
-use Rattle.edi_plan.specs.Plans.{Drawing}
+use Rattle.edi_plan.specs.Plans.{PlanData}
 use Rattle.edi_plan.specs.declared.record.PlanAttribute.{PlanAttribute}
 use Rattle.edi_plan.specs.inner.Resolving.{is_elsewhere}
 use Rattle.edi_topo.proofs.AtPlaces.{breaks_of_node, first_is_least}
@@ -81,7 +81,7 @@ module _ (n : Name) (plain : IsPlainName n) (att : n.rty ≡ codes "ATT") where
   value_held s k known = references_held s (probe (value_records n)) (value_read s) value_sheet value_stated (references_as s (value_records n) (value_refers s k known))
 
   -- the plan, where the two values are these
-  value_plan : ℕ → Role → Value → Value → Drawing
+  value_plan : ℕ → Role → Value → Value → PlanData
   value_plan k role v w = record {
     cse = None;
     list = record { kind = Pno; class = k; role = role; points = spot 0 0 ∷ []; attributes = record { atp = k; tex = None; value = v } ∷ []; extras = []; ends = [] }

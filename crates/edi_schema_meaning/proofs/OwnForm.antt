@@ -12,7 +12,7 @@ use Rattle.edi_schema.proofs.Names.{same_name}
 use Rattle.edi_schema.specs.Classes.{Classes, IsSchema, class_name_at, is_name, place_of}
 use Rattle.edi_plan.proofs.Built.{plans_agreeing, plans_whole}
 use Rattle.edi_plan.specs.PlanOf.{IsPlanOf}
-use Rattle.edi_plan.specs.Plans.{Drawing}
+use Rattle.edi_plan.specs.Plans.{PlanData}
 use Rattle.edi_plan.specs.ReferenceRules.{BreaksReferenceRule}
 use Rattle.edi_rank.proofs.SameLaws.{same_refl}
 use Rattle.edi_rank.specs.EqualObjects.{BreaksObjectRule}
@@ -55,7 +55,7 @@ own_form s keeps c h =
     record { accepted = h.accepted; canonical = h; same = same; only = decide reading_is_one s keeps c c h.accepted h same }
 
 -- a file of records that a schema accepts, and whose plan is written as these records
-pub record IsWrittenSo (s : Classes) (c : List ℕ) (rs : List Record) (p : Drawing) : Type 0 where
+pub record IsWrittenSo (s : Classes) (c : List ℕ) (rs : List Record) (p : PlanData) : Type 0 where
   pub sheet : Sheet
   pub states : IsSheetOf c sheet
   pub list : sheet.list ≡ rs
@@ -67,7 +67,7 @@ pub record IsWrittenSo (s : Classes) (c : List ℕ) (rs : List Record) (p : Draw
   pub objects : IsUnbroken (BreaksObjectRule p)
   pub written : written_records s p ≡ rs
 
-module _ (s : Classes) (keeps : IsSchema s) (c : List ℕ) (rs : List Record) (p : Drawing) (h : IsWrittenSo s c rs p) where
+module _ (s : Classes) (keeps : IsSchema s) (c : List ℕ) (rs : List Record) (p : PlanData) (h : IsWrittenSo s c rs p) where
   unbroken : IsUnbroken (BreaksReferenceRule s h.sheet.list)
   unbroken = subst (λ l. IsUnbroken (BreaksReferenceRule s l)) (sym h.list) h.references
 

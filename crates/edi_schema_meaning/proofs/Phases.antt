@@ -4,7 +4,7 @@ use Rattle.edi_line.specs.Refusal.{IsLeastBroken}
 use Rattle.edi_record.specs.declared.sheet.Sheet.{Sheet}
 use Rattle.edi_schema.specs.Classes.{Classes}
 use Rattle.edi_plan.specs.PlanOf.{IsPlanOf}
-use Rattle.edi_plan.specs.Plans.{Drawing}
+use Rattle.edi_plan.specs.Plans.{PlanData}
 use Rattle.edi_compare.specs.PlanOfFile.{IsPlanOfFile}
 use Rattle.edi_compare.specs.Refused.{IsRefusal}
 use Rattle.edi_compare.specs.Rules.{Breaks, IsAccepted, LinesHold, RecordsHold, ReferencesHold, TopologyHolds}
@@ -18,7 +18,7 @@ use Rattle.edi_schema_meaning.proofs.Renamed.{renamed}
 -- the names mean the same, and a plan under s is one under u with its classes renamed
 pub record IsLinked (s u : Classes) (f : ℕ → ℕ) : Type 0 where
   pub names : SameNames s u
-  pub plans : (sheet : Sheet) (p : Drawing) → Nameable sheet.list → Attributed sheet.list → IsPlanOf s sheet p → IsPlanOf u sheet (renamed f p)
+  pub plans : (sheet : Sheet) (p : PlanData) → Nameable sheet.list → Attributed sheet.list → IsPlanOf s sheet p → IsPlanOf u sheet (renamed f p)
 
 -- what holds of an accepted file
 pub references_held : (s : Classes) (b : List ℕ) → IsAccepted s b → ReferencesHold s b
@@ -31,7 +31,7 @@ module _ (s u : Classes) (f g : ℕ → ℕ) (link : IsLinked s u f) (back : IsL
   references_hold : ReferencesHold s b → ReferencesHold u b
   references_hold h = (h.0, λ sheet is rule at broken. h.1 sheet is rule at (references u s back.names sheet.list (nameable b sheet is) rule at broken))
 
-  pub plan_held : ReferencesHold s b → (p : Drawing) → IsPlanOfFile s b p → IsPlanOfFile u b (renamed f p)
+  pub plan_held : ReferencesHold s b → (p : PlanData) → IsPlanOfFile s b p → IsPlanOfFile u b (renamed f p)
   plan_held h p plan = (plan.0, plan.1, link.plans plan.0 p (nameable b plan.0 plan.1) (attributed s plan.0.list (h.1 plan.0 plan.1)) plan.2)
 
 module _ (s u : Classes) (f g : ℕ → ℕ) (link : IsLinked s u f) (back : IsLinked u s g) (b : List ℕ) where

@@ -6,7 +6,7 @@ use Rattle.std.proofs.lemmas.Bool.{leb-true, ltb-true}
 use Rattle.std.proofs.lemmas.List.{length-take-le}
 use Rattle.std.proofs.lemmas.List.Elements.{All-from_recursion}
 use Rattle.edi_line.specs.Bytes.{IsBytes, line_width}
-use Rattle.edi_line.specs.Entry.{Entry}
+use Rattle.edi_line.specs.ZoneData.{ZoneData}
 use Rattle.edi_line.specs.Printing.{broken_into, content_text, line_text, next_zone, printed, printed_zone, with_value, zone_headed}
 use Rattle.edi_record.specs.CanonicalZones.{class_text}
 use Rattle.edi_record.specs.Texts.{pointer_text}
@@ -36,20 +36,20 @@ known_bytes xs h = all_said (λ c. c < 256) (λ x. nat_lt x 256) (λ x e. ltb-tr
 
 -- ---- lines
 
-pub record ZoneBytes (z : Entry) : Type 0 where
+pub record ZoneBytes (z : ZoneData) : Type 0 where
   pub code : AreBytes z.code
   pub nature : z.nature < 256
   pub format : z.format < 256
   pub value : AreBytes z.value
 
-line_bytes : (z : Entry) → ZoneBytes z → length z.value ≤ 99 → AreBytes (line_text z)
+line_bytes : (z : ZoneData) → ZoneBytes z → length z.value ≤ 99 → AreBytes (line_text z)
 unfolding line_text content_text
 line_bytes z h short =
     let tens : 48 + length z.value / 10 < 256 = omega (arith, short) in
     let ones : 48 + length z.value % 10 < 256 = omega (arith, short) in
     joined _ (13 ∷ 10 ∷ []) (joined z.code _ h.code (h.nature, (h.format, (tens, (ones, (lit< tt, h.value)))))) (lit< tt, (lit< tt, tt))
 
-broken_bytes : (turns : ℕ) (z : Entry) → length z.value ≤ turns → ZoneBytes z → AreBytes (flat_map line_text (broken_into turns z))
+broken_bytes : (turns : ℕ) (z : ZoneData) → length z.value ≤ turns → ZoneBytes z → AreBytes (flat_map line_text (broken_into turns z))
 unfolding broken_into next_zone
 broken_bytes zero z few h = joined (line_text z) [] (line_bytes z h (omega (arith, few))) tt
 broken_bytes (suc turns) z few h = go (nat_le (length z.value) line_width) refl (broken_bytes turns (next_zone (drop line_width z.value)))
@@ -66,7 +66,7 @@ broken_bytes (suc turns) z few h = go (nat_le (length z.value) line_width) refl 
         (line_bytes (with_value (take line_width z.value) z) (record { code = h.code; nature = h.nature; format = h.format; value = taken line_width z.value h.value }) (omega (arith, front)))
         (more (omega (arith, rest, few, long)) (record { code = (lit< tt, (lit< tt, (lit< tt, tt))); nature = lit< tt; format = lit< tt; value = dropped line_width z.value h.value })))
 
-pub printed_bytes : (zs : List Entry) → AllByRecursion ZoneBytes zs → AreBytes (printed zs)
+pub printed_bytes : (zs : List ZoneData) → AllByRecursion ZoneBytes zs → AreBytes (printed zs)
 unfolding printed_zone
 printed_bytes [] all = tt
 printed_bytes (z ∷ zs) all = joined (printed_zone z) (printed zs) (broken_bytes (length z.value) z (omega arith) all.0) (printed_bytes zs all.1)
@@ -76,7 +76,7 @@ are_bytes xs h = All-from_recursion (λ c. c < 256) xs h
 
 -- ---- zones
 
-pub zones_joined : (xs ys : List Entry) → AllByRecursion ZoneBytes xs → AllByRecursion ZoneBytes ys → AllByRecursion ZoneBytes (xs ++ ys)
+pub zones_joined : (xs ys : List ZoneData) → AllByRecursion ZoneBytes xs → AllByRecursion ZoneBytes ys → AllByRecursion ZoneBytes (xs ++ ys)
 zones_joined [] ys hx hy = hy
 zones_joined (x ∷ xs) ys hx hy = (hx.0, zones_joined xs ys hx.1 hy)
 

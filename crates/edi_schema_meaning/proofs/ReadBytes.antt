@@ -8,7 +8,7 @@ use Rattle.edi_line.proofs.Cut.{lines_exist}
 use Rattle.edi_line.proofs.Said.{file_said}
 use Rattle.edi_line.proofs.ZonesFound.{continuation, whole_zones, zones_of}
 use Rattle.edi_line.specs.Bytes.{IsBytes}
-use Rattle.edi_line.specs.Entry.{Entry, first, has_code}
+use Rattle.edi_line.specs.ZoneData.{ZoneData, first, has_code}
 use Rattle.edi_line.specs.LineKinds.{kind_of}
 use Rattle.edi_line.specs.Lines.{content_of, without_last}
 use Rattle.edi_line.specs.Spelling.{Reading, Spelling}
@@ -108,7 +108,7 @@ continued_bytes (Continues value ∷ parts) h = joined value (continuation parts
 continued_bytes (IsRemark ∷ parts) h = tt
 continued_bytes (Begins z ∷ parts) h = tt
 
-abbrev HaveBytes : List Entry → Type 0
+abbrev HaveBytes : List ZoneData → Type 0
 HaveBytes zones = AllByRecursion (λ z. AreBytes z.value) zones
 
 whole_bytes : (parts : List Part) → AllByRecursion IsPartOfBytes parts → HaveBytes (whole_zones parts)
@@ -124,7 +124,7 @@ zones_bytes bytes h =
 
 -- ---- the zones of records
 
-before_bytes : (zones : List Entry) → HaveBytes zones → HaveBytes (before_end zones)
+before_bytes : (zones : List ZoneData) → HaveBytes zones → HaveBytes (before_end zones)
 before_bytes [] h = tt
 before_bytes (z ∷ zones) h = go (ends_group z) (before_bytes zones h.1)
   where
@@ -132,7 +132,7 @@ before_bytes (z ∷ zones) h = go (ends_group z) (before_bytes zones h.1)
     go true more = tt
     go false more = (h.0, more)
 
-groups_bytes : (zones : List Entry) → HaveBytes zones → AllByRecursion HaveBytes (groups_of zones)
+groups_bytes : (zones : List ZoneData) → HaveBytes zones → AllByRecursion HaveBytes (groups_of zones)
 groups_bytes [] h = tt
 groups_bytes (z ∷ zones) h = go (begins_group z) (before_bytes zones h.1) (groups_bytes zones h.1)
   where
@@ -140,7 +140,7 @@ groups_bytes (z ∷ zones) h = go (begins_group z) (before_bytes zones h.1) (gro
     go true front more = ((h.0, front), more)
     go false front more = more
 
-value_bytes : (code : List ℕ) (group : List Entry) → HaveBytes group → (text : List ℕ) → first (values code group) ≡ Some text → AreBytes text
+value_bytes : (code : List ℕ) (group : List ZoneData) → HaveBytes group → (text : List ℕ) → first (values code group) ≡ Some text → AreBytes text
 value_bytes code [] h text e = absurd (none-some text e)
 value_bytes code (z ∷ zs) h text e = go (has_code code z) refl e (value_bytes code zs h.1 text)
   where
@@ -150,7 +150,7 @@ value_bytes code (z ∷ zs) h text e = go (has_code code z) refl e (value_bytes 
 
 -- ---- the names of a schema
 
-names_bytes : (kinds : KindCodes) (words : Words) (groups : List (List Entry)) (stated : Classes) → AllZip (StatesClass kinds words) groups stated → AllByRecursion HaveBytes groups
+names_bytes : (kinds : KindCodes) (words : Words) (groups : List (List ZoneData)) (stated : Classes) → AllZip (StatesClass kinds words) groups stated → AllByRecursion HaveBytes groups
     → AllByRecursion (λ (e : Name × Class). IsBytes e.0.rty × IsBytes e.0.rid) stated
 names_bytes kinds words [] [] all h = tt
 names_bytes kinds words [] (e ∷ es) all h = absurd all

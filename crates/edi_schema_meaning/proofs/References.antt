@@ -3,7 +3,7 @@ use Rattle.std.proofs.Common.{◌≡◌, ◌≢◌, ◌⊎◌, inl, inr, ℕ, su
 use Rattle.std.specs.List.{AllByRecursion, AllZip, list_any}
 use Rattle.std.proofs.lemmas.Option.{get_or_from_slice_get, slice_get_within}
 use Rattle.std.proofs.lemmas.Slice.Eq.{bytes_eq-Decides}
-use Rattle.edi_line.specs.Entry.{Entry}
+use Rattle.edi_line.specs.ZoneData.{ZoneData}
 use Rattle.edi_line.specs.Refusal.{IsUnbroken}
 use Rattle.edi_line.specs.Zones.{groups_of}
 use Rattle.edi_record.specs.Records.{States}
@@ -32,7 +32,7 @@ Nameable list = AllByRecursion (λ r. list_any is_semicolon r.scp.rty ≡ false)
 abbrev pub Attributed : List Record → Type 0
 Attributed list = AllByRecursion (λ r. AllByRecursion (λ a. a.atp.rty ≡ codes "ATT") r.attributes) list
 
-each_nameable : (groups : List (List Entry)) (list : List Record) → AllZip States groups list → Nameable list
+each_nameable : (groups : List (List ZoneData)) (list : List Record) → AllZip States groups list → Nameable list
 each_nameable [] [] all = tt
 each_nameable [] (r ∷ rs) all = absurd all
 each_nameable (g ∷ gs) [] all = absurd all

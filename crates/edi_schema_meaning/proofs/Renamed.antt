@@ -1,7 +1,7 @@
 -- Plans with their classes renamed.
 use Rattle.std.proofs.Common.{◌≡◌, ℕ, zero, suc, List, [], ◌∷◌, length, map, get_or, filter_map, Option, Some, None, option_map, refl, ap, arith}
 use Rattle.std.proofs.lemmas.List.{get_or-map, length-map}
-use Rattle.edi_plan.specs.Plans.{Drawing, IsPlace, blank, record_at}
+use Rattle.edi_plan.specs.Plans.{PlanData, IsPlace, blank, record_at}
 use Rattle.edi_plan.specs.declared.record.PlanAttribute.{PlanAttribute}
 use Rattle.edi_plan.specs.declared.record.PlanRecord.{PlanRecord}
 
@@ -29,20 +29,20 @@ renamed_attribute f a = record { atp = f a.atp; tex = a.tex; value = a.value }
 abbrev pub renamed_record : (ℕ → ℕ) → PlanRecord → PlanRecord
 renamed_record f r = record { kind = r.kind; class = f r.class; role = r.role; points = r.points; attributes = map (renamed_attribute f) r.attributes; extras = r.extras; ends = r.ends }
 
-abbrev pub renamed : (ℕ → ℕ) → Drawing → Drawing
+abbrev pub renamed : (ℕ → ℕ) → PlanData → PlanData
 renamed f p = record { cse = p.cse; list = map (renamed_record f) p.list }
 
 module _ (f : ℕ → ℕ) where
-  pub length_renamed : (p : Drawing) → length (renamed f p).list ≡ length p.list
+  pub length_renamed : (p : PlanData) → length (renamed f p).list ≡ length p.list
   length_renamed p = length-map p.list (renamed_record f)
 
-  pub place_in : (p : Drawing) (k : ℕ) → IsPlace p k → IsPlace (renamed f p) k
+  pub place_in : (p : PlanData) (k : ℕ) → IsPlace p k → IsPlace (renamed f p) k
   place_in p k h = let l = length_renamed p in omega (arith, l)
 
-  pub place_back : (p : Drawing) (k : ℕ) → IsPlace (renamed f p) k → IsPlace p k
+  pub place_back : (p : PlanData) (k : ℕ) → IsPlace (renamed f p) k → IsPlace p k
   place_back p k h = let l = length_renamed p in omega (arith, l)
 
-  pub record_in : (p : Drawing) (k : ℕ) → IsPlace p k → record_at (renamed f p) k ≡ renamed_record f (record_at p k)
+  pub record_in : (p : PlanData) (k : ℕ) → IsPlace p k → record_at (renamed f p) k ≡ renamed_record f (record_at p k)
   record_in p k h = get_or-map (renamed_record f) p.list k blank blank h
 
   -- what a renaming doesn't change of a record
@@ -51,19 +51,19 @@ module _ (f : ℕ → ℕ) where
   field_at g same (r ∷ rs) zero = same r
   field_at g same (r ∷ rs) (suc k) = field_at g same rs k
 
-  pub kind_at : (p : Drawing) (k : ℕ) → (record_at (renamed f p) k).kind ≡ (record_at p k).kind
+  pub kind_at : (p : PlanData) (k : ℕ) → (record_at (renamed f p) k).kind ≡ (record_at p k).kind
   kind_at p k = field_at (λ r. r.kind) (λ r. refl) p.list k
 
-  pub ends_at : (p : Drawing) (k : ℕ) → (record_at (renamed f p) k).ends ≡ (record_at p k).ends
+  pub ends_at : (p : PlanData) (k : ℕ) → (record_at (renamed f p) k).ends ≡ (record_at p k).ends
   ends_at p k = field_at (λ r. r.ends) (λ r. refl) p.list k
 
-  pub role_at : (p : Drawing) (k : ℕ) → (record_at (renamed f p) k).role ≡ (record_at p k).role
+  pub role_at : (p : PlanData) (k : ℕ) → (record_at (renamed f p) k).role ≡ (record_at p k).role
   role_at p k = field_at (λ r. r.role) (λ r. refl) p.list k
 
-  pub points_at : (p : Drawing) (k : ℕ) → (record_at (renamed f p) k).points ≡ (record_at p k).points
+  pub points_at : (p : PlanData) (k : ℕ) → (record_at (renamed f p) k).points ≡ (record_at p k).points
   points_at p k = field_at (λ r. r.points) (λ r. refl) p.list k
 
-  pub extras_at : (p : Drawing) (k : ℕ) → (record_at (renamed f p) k).extras ≡ (record_at p k).extras
+  pub extras_at : (p : PlanData) (k : ℕ) → (record_at (renamed f p) k).extras ≡ (record_at p k).extras
   extras_at p k = field_at (λ r. r.extras) (λ r. refl) p.list k
 
 -- the way back
@@ -77,5 +77,5 @@ module _ (f g : ℕ → ℕ) (same : (k : ℕ) → g (f k) ≡ k) where
   pub record_again : (r : PlanRecord) → renamed_record g (renamed_record f r) ≡ r
   record_again r = λ i. record { kind = r.kind; class = same r.class i; role = r.role; points = r.points; attributes = attributes_again r.attributes i; extras = r.extras; ends = r.ends }
 
-  pub plan_again : (p : Drawing) → renamed g (renamed f p) ≡ p
+  pub plan_again : (p : PlanData) → renamed g (renamed f p) ≡ p
   plan_again p = λ i. record { cse = p.cse; list = map_back (renamed_record f) (renamed_record g) record_again p.list i }

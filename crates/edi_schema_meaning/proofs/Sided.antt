@@ -7,7 +7,7 @@ use Rattle.std.specs.Option.{option_cmp}
 use Rattle.std.specs.Ordering.{is_gt, nat_cmp}
 use Rattle.std.proofs.lemmas.Bool.{leb-true}
 use Rattle.edi_line.specs.Bytes.{IsBytes}
-use Rattle.edi_line.specs.Entry.{Entry}
+use Rattle.edi_line.specs.ZoneData.{ZoneData}
 use Rattle.edi_line.specs.Number.{fraction_digits, size_text}
 use Rattle.edi_line.specs.Refusal.{IsUnbroken}
 use Rattle.edi_record.specs.CanonicalZones.{class_text, end_text}
@@ -26,7 +26,7 @@ use Rattle.edi_schema.specs.declared.role.Role.{Role}
 use Rattle.edi_schema.specs.declared.role.Role.TheVariants.{Initial, Final, Left, Right, Plain}
 use Rattle.edi_plan.specs.Joined.{beside}
 use Rattle.edi_plan.specs.Orders.{attribute_cmp}
-use Rattle.edi_plan.specs.Plans.{Drawing, others_of, record_at}
+use Rattle.edi_plan.specs.Plans.{PlanData, others_of, record_at}
 use Rattle.edi_plan.specs.Sides.{Side}
 use Rattle.edi_plan.specs.inner.Resolving.{is_elsewhere}
 use Rattle.edi_rank.specs.EqualObjects.{BreaksObjectRule}
@@ -51,7 +51,7 @@ use Rattle.edi_schema_meaning.specs.Probes.{arc_of, end_at, face_of, link_of, si
 
 -- ---- the plan: of classes at the places j and k, with this role and the exchanged one
 
-abbrev side_plan : ℕ → ℕ → Role → Drawing
+abbrev side_plan : ℕ → ℕ → Role → PlanData
 side_plan j k role = record {
   cse = None;
   list = record { kind = Par; class = j; role = role; points = spot 0 0 ∷ spot 1 0 ∷ []; attributes = []; extras = []; ends = [] }
@@ -371,7 +371,7 @@ side_bytes L m n first second =
     are_bytes (records_layout L None (side_records m n)) (printed_bytes (zones_of_sheet L None (side_records m n))
     (headed (codes "BOMT ") (codes "CANON.VEC") refl (lit< tt) (lit< tt) (known_bytes (codes "CANON.VEC") refl), zones_joined _ (zone_end ∷ []) arc last))
   where
-    zone_end : Entry
+    zone_end : ZoneData
     zone_end = Rattle.edi_record.specs.CanonicalZones.end_zone
 
 -- ---- two schemas

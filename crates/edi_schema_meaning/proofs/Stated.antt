@@ -10,7 +10,7 @@ use Rattle.edi_record.specs.declared.record.Record.{Record}
 use Rattle.edi_record.specs.declared.sheet.Sheet.{Sheet}
 use Rattle.edi_schema.specs.Classes.{Classes, is_number_named, place_of}
 use Rattle.edi_plan.specs.PlanOf.{IsPlanOf, StatesPlanAttribute, StatesPlanRecord}
-use Rattle.edi_plan.specs.Plans.{Drawing}
+use Rattle.edi_plan.specs.Plans.{PlanData}
 use Rattle.edi_plan.specs.declared.record.PlanAttribute.{PlanAttribute}
 use Rattle.edi_plan.specs.declared.record.PlanRecord.{PlanRecord}
 use Rattle.edi_schema_text.proofs.Meaning.{meaning}
@@ -149,11 +149,11 @@ module _ (s : Classes) where
 
   -- ---- plans
 
-  pub plan_in : (sheet : Sheet) (p : Drawing) → Nameable sheet.list → Attributed sheet.list → IsPlanOf (meaning s) sheet p → IsPlanOf s sheet (renamed (embed s) p)
+  pub plan_in : (sheet : Sheet) (p : PlanData) → Nameable sheet.list → Attributed sheet.list → IsPlanOf (meaning s) sheet p → IsPlanOf s sheet (renamed (embed s) p)
   plan_in sheet p plain types h = record { set = h.set; each = records_in sheet.list sheet.list p.list plain types h.each }
 
-  pub plan_back : (sheet : Sheet) (p : Drawing) → Nameable sheet.list → Attributed sheet.list → IsPlanOf s sheet p → IsPlanOf (meaning s) sheet (renamed (unembed s) p)
+  pub plan_back : (sheet : Sheet) (p : PlanData) → Nameable sheet.list → Attributed sheet.list → IsPlanOf s sheet p → IsPlanOf (meaning s) sheet (renamed (unembed s) p)
   plan_back sheet p plain types h = record { set = h.set; each = records_back sheet.list sheet.list p.list plain types h.each }
 
-  pub plan_again : (sheet : Sheet) (p : Drawing) → Nameable sheet.list → Attributed sheet.list → IsPlanOf s sheet p → renamed (embed s) (renamed (unembed s) p) ≡ p
+  pub plan_again : (sheet : Sheet) (p : PlanData) → Nameable sheet.list → Attributed sheet.list → IsPlanOf s sheet p → renamed (embed s) (renamed (unembed s) p) ≡ p
   plan_again sheet p plain types h = let same = records_again sheet.list sheet.list p.list plain types h.each in λ i. record { cse = p.cse; list = same i }

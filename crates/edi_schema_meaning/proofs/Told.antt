@@ -19,7 +19,7 @@ use Rattle.edi_schema.specs.declared.class.Class.{Class}
 use Rattle.edi_schema.specs.declared.role.Role.{Role}
 use Rattle.edi_schema.specs.declared.role.Role.TheVariants.{Initial, Final, Left, Right, Plain}
 use Rattle.edi_plan.specs.Joined.{beside}
-use Rattle.edi_plan.specs.Plans.{Drawing}
+use Rattle.edi_plan.specs.Plans.{PlanData}
 use Rattle.edi_plan.specs.ReferenceRules.{BreaksReferenceRule, IsLinkOfRole, IsRecordAt, JoinsArcTo, JoinsWrong, Names}
 use Rattle.edi_plan.specs.ReferenceRules.BreaksReferenceRule.{repeats_name, lacks_class, lacks_attribute_class, leaves_subset, names_nothing, joins_wrong, repeats_side}
 use Rattle.edi_rank.specs.EqualObjects.BreaksObjectRule.{repeats_object}
@@ -100,7 +100,7 @@ module _ (s : Classes) (b : List ℕ) (sheet : Sheet) (states : IsSheetOf b shee
   reference_back records rule at low (of_objects p held plan (repeats_object e a l h)) = absurd (omega (arith, e, low))
 
   -- a rule of topology is broken by the plan
-  pub topology_back : ReferencesHold s b → (p : Drawing) → IsPlanOfFile s b p → (rule at : ℕ) → rule < 500 → Breaks s b rule at → BreaksTopologyRule p rule at
+  pub topology_back : ReferencesHold s b → (p : PlanData) → IsPlanOfFile s b p → (rule at : ℕ) → rule < 500 → Breaks s b rule at → BreaksTopologyRule p rule at
   topology_back held p plan rule at low (of_lines h) = absurd (held.0.0 rule at h)
   topology_back held p plan rule at low (of_records zones lines z h) = absurd (held.0.1 zones z rule at h)
   topology_back held p plan rule at low (of_references other records z h) = absurd (held.1 other z rule at h)

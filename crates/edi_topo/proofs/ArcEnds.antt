@@ -12,7 +12,7 @@ use Rattle.edi_schema.specs.Roles.{is_plain}
 use Rattle.edi_schema.specs.declared.role.Role.{Role}
 use Rattle.edi_schema.specs.declared.role.Role.TheVariants.{Initial, Final, Left, Right, Plain}
 use Rattle.edi_plan.specs.Joined.{beside, HasEnds, JoinsArc, IsJoin, IsJoined}
-use Rattle.edi_plan.specs.Plans.{Drawing, IsPlace, record_at}
+use Rattle.edi_plan.specs.Plans.{PlanData, IsPlace, record_at}
 use Rattle.edi_plan.specs.Sides.{Side, targets}
 use Rattle.edi_plan.specs.Whole.{IsWholePlan}
 use Rattle.edi_plan.specs.declared.record.PlanEnd.{PlanEnd}
@@ -88,7 +88,7 @@ not_an_arc Left e = cc
 not_an_arc Right e = cc
 not_an_arc Plain e = cc
 
-module _ (p : Drawing) (joined : IsJoined p) where
+module _ (p : PlanData) (joined : IsJoined p) where
   join_of : (a x : ℕ) (role : Role) (s : Side p a role x) → IsJoin p s.link
   join_of a x role s = record { there = s.there; is_link = s.is_link; not_plain = ap is_plain s.has_role ∙ no_plain role s.not_plain }
 

@@ -7,7 +7,7 @@ use Rattle.edi_line.specs.Refusal.{IsUnbroken, IsLeastBroken}
 use Rattle.edi_record.specs.declared.record.Kind.{Kind}
 use Rattle.edi_record.specs.declared.record.Kind.TheVariants.{Pno, Par, Pfe}
 use Rattle.edi_schema.specs.declared.role.Role.TheVariants.{Left, Right}
-use Rattle.edi_plan.specs.Plans.{Drawing, IsPlace, record_at, kind_rank}
+use Rattle.edi_plan.specs.Plans.{PlanData, IsPlace, record_at, kind_rank}
 use Rattle.edi_plan.specs.Sides.{Side}
 use Rattle.edi_topo.specs.inner.Arcs.{RepeatsAnEarlierArc}
 use Rattle.edi_topo.specs.inner.AtRecord.{IsUnbrokenAt, IsLeastAt, IsUpTo, AreAhead, AreFindings}
@@ -34,7 +34,7 @@ at_first R (Some n) place first up h =
 pub has_it : (R : ℕ → Type 0) (found : Option ℕ) (place : ℕ) → found ≡ Some place → MatchOption found ((n : ℕ) → ¬ (R n)) (λ n. R n × ((k : ℕ) → R k → n ≤ k)) → R place
 has_it R found place e first = (subst (λ o. MatchOption o ((n : ℕ) → ¬ (R n)) (λ n. R n × ((k : ℕ) → R k → n ≤ k))) e first).0
 
-module _ (p : Drawing) where
+module _ (p : PlanData) where
   abbrev kind_at : ℕ → Kind
   kind_at k = (record_at p k).kind
 

@@ -4,7 +4,7 @@ use Rattle.edi_record.specs.declared.record.Point.{Point}
 use Rattle.edi_record.specs.declared.record.Kind.{Kind}
 use Rattle.edi_record.specs.declared.record.Kind.TheVariants.{Pno, Par, Pfe}
 use Rattle.edi_schema.specs.declared.role.Role.TheVariants.{Left, Right}
-use Rattle.edi_plan.specs.Plans.{Drawing, IsPlace, record_at, kind_rank}
+use Rattle.edi_plan.specs.Plans.{PlanData, IsPlace, record_at, kind_rank}
 use Rattle.edi_plan.specs.Sides.{Side}
 use Rattle.edi_topo.specs.inner.Arcs.{RepeatsAnEarlierArc}
 use Rattle.edi_topo.specs.inner.Faces.{IsFacedBelow}
@@ -14,7 +14,7 @@ use Rattle.edi_topo.specs.TopologyRules.BreaksTopologyRule.{starts_elsewhere, en
 use Rattle.edi_topo.proofs.AtPlaces.{breaks_of_node, breaks_of_face, breaks_of_other, BreaksOfArc, breaks_of_arc}
 use Rattle.edi_topo.proofs.AtPlaces.BreaksOfArc.{starts, ends, reverses, repeats}
 
-module _ (p : Drawing) (k : ℕ) where
+module _ (p : PlanData) (k : ℕ) where
   -- the record at this place from 0 breaks the rule
   abbrev Breaks : ℕ → Type 0
   Breaks rule = BreaksTopologyRule p rule (k + 1)

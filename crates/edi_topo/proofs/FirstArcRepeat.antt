@@ -8,7 +8,7 @@ use Rattle.edi_record.specs.Orders.{point_cmp, points_cmp}
 use Rattle.edi_record.specs.declared.record.Kind.TheVariants.{Par}
 use Rattle.edi_record.specs.declared.record.Point.{Point}
 use Rattle.edi_plan.specs.Places.{places_of}
-use Rattle.edi_plan.specs.Plans.{Drawing, record_at}
+use Rattle.edi_plan.specs.Plans.{PlanData, record_at}
 use Rattle.edi_plan.proofs.Orders.{exact_lists, point_exact, points_total}
 use Rattle.edi_plan.proofs.PlaceLemmas.{place_there, place_of_kind, places_rise, has_place}
 use Rattle.edi_topo.specs.Arcs.{forward_keys}
@@ -18,10 +18,10 @@ use Rattle.edi_topo.specs.Directions.{is_forward, forward}
 use Rattle.edi_topo.specs.Ranking.{Ties}
 use Rattle.edi_topo.proofs.MarksPlaced.{marks_at_places}
 
-abbrev pub count_of : Drawing → ℕ
+abbrev pub count_of : PlanData → ℕ
 count_of p = length (places_of Par p)
 
-abbrev pub key_of : Drawing → ℕ → List Point
+abbrev pub key_of : PlanData → ℕ → List Point
 key_of p m = get_or (forward_keys p) m []
 
 -- ---- the forward direction of points and of their reverse is one
@@ -58,7 +58,7 @@ pub one_direction : (xs ys : List Point) → (ys ≡ xs) ⊎ (ys ≡ reverse xs)
 one_direction xs ys (inl e) = ap forward (sym e)
 one_direction xs ys (inr e) = sym (ap forward e ∙ forward_reverse xs)
 
-module _ (p : Drawing) where
+module _ (p : PlanData) where
   abbrev pub place : ℕ → ℕ
   place m = get_or (places_of Par p) m 0
 
@@ -104,7 +104,7 @@ module _ (p : Drawing) where
   tie_repeats m tie = repeats_there tie.1.0 m tie.1.1 tie.0 tie.1.2
 
   -- the places of the members that tie are those of the arcs with the points of an earlier one
-  pub marks_repeat : (q : Drawing) → q ≡ p → (marks read by_place : List Bool) (places : List ℕ) (count : ℕ) → read ≡ marks → places ≡ places_of Par p → count ≡ length p.list
+  pub marks_repeat : (q : PlanData) → q ≡ p → (marks read by_place : List Bool) (places : List ℕ) (count : ℕ) → read ≡ marks → places ≡ places_of Par p → count ≡ length p.list
       → AreMarksOf (count_of q) (Ties points_cmp (key_of q) (count_of q)) marks → AreMarksOf count (IsPlaceOfMark places read) by_place → AreMarksOf (length p.list) (RepeatsAnEarlierArc p) by_place
   marks_repeat q same marks read by_place places count e f g tied placed = marks_at_places Par p (Ties points_cmp (key_of p) (count_of p)) (RepeatsAnEarlierArc p) (λ m t. t.0) tie_repeats tying_member
       marks read by_place places (count_of p) count e f g (subst (λ r. AreMarksOf (count_of r) (Ties points_cmp (key_of r) (count_of r)) marks) same tied) placed

@@ -4,7 +4,7 @@ use Rattle.std.proofs.lemmas.List.{get_or-map}
 use Rattle.std.proofs.lemmas.Bool.{cases_order}
 use Rattle.edi_record.specs.declared.record.Kind.TheVariants.{Pno}
 use Rattle.edi_plan.specs.Places.{places_of}
-use Rattle.edi_plan.specs.Plans.{Drawing, record_at}
+use Rattle.edi_plan.specs.Plans.{PlanData, record_at}
 use Rattle.edi_plan.specs.Whole.{IsWholePlan}
 use Rattle.edi_plan.proofs.PlaceLemmas.{place_there, place_of_kind, places_rise, has_place}
 use Rattle.edi_topo.specs.NodeKeys.{node_key, node_keys, node_key_cmp, no_node, IsNodeRanking}
@@ -19,13 +19,13 @@ use Rattle.edi_topo.specs.contracts.node_key.NodeKeyOrd.TheImpl.{ghosts as nodes
 
 -- how many nodes there are, and the key of each
 
-abbrev pub count_of : Drawing → ℕ
+abbrev pub count_of : PlanData → ℕ
 count_of p = length (places_of Pno p)
 
-abbrev pub key_of : Drawing → ℕ → NodeKey
+abbrev pub key_of : PlanData → ℕ → NodeKey
 key_of p m = get_or (node_keys p) m no_node
 
-module _ (p : Drawing) (whole : IsWholePlan p) where
+module _ (p : PlanData) (whole : IsWholePlan p) where
   abbrev pub place : ℕ → ℕ
   place m = get_or (places_of Pno p) m 0
 
@@ -70,11 +70,11 @@ module _ (p : Drawing) (whole : IsWholePlan p) where
       behind j h k e le (inr (inr more)) = absurd (omega arith)
 
   -- the places of the members that tie are those of the nodes that equal an earlier one
-  pub marks_repeat : (q : Drawing) → q ≡ p → (marks read by_place : List Bool) (places : List ℕ) (count : ℕ) → read ≡ marks → places ≡ places_of Pno p → count ≡ length p.list
+  pub marks_repeat : (q : PlanData) → q ≡ p → (marks read by_place : List Bool) (places : List ℕ) (count : ℕ) → read ≡ marks → places ≡ places_of Pno p → count ≡ length p.list
       → AreMarksOf (count_of q) (Ties nodes.cmp (key_of q) (count_of q)) marks → AreMarksOf count (IsPlaceOfMark places read) by_place → AreMarksOf (length p.list) (RepeatsAnEarlier p) by_place
   marks_repeat q same marks read by_place places count e f g tied placed = marks_at_places Pno p (Ties nodes.cmp (key_of p) (count_of p)) (RepeatsAnEarlier p) (λ m t. t.0) tie_repeats tying_member
       marks read by_place places (count_of p) count e f g (subst (λ r. AreMarksOf (count_of r) (Ties nodes.cmp (key_of r) (count_of r)) marks) same tied) placed
 
 -- the numbers by the derived order are those by the written one
-pub ranking_of : (p q : Drawing) (numbers : List ℕ) → q ≡ p → IsRanking nodes.cmp (key_of q) (count_of q) numbers → IsNodeRanking p numbers
+pub ranking_of : (p q : PlanData) (numbers : List ℕ) → q ≡ p → IsRanking nodes.cmp (key_of q) (count_of q) numbers → IsNodeRanking p numbers
 ranking_of p q numbers e h = subst (λ r. IsRanking node_key_cmp (key_of r) (count_of r) numbers) e (subst (λ cmp. IsRanking cmp (key_of q) (count_of q) numbers) (λ i a b. node_order a b i) h)

@@ -3,7 +3,7 @@ use Rattle.std.proofs.Common.{◌≡◌, ◌≢◌, ℕ, ◌+◌, ◌<◌, ◌�
 use Rattle.std.proofs.lemmas.Bool.{cases_eq}
 use Rattle.edi_record.specs.declared.record.Kind.TheVariants.{Par}
 use Rattle.edi_schema.specs.declared.role.Role.TheVariants.{Left, Right}
-use Rattle.edi_plan.specs.Plans.{Drawing, record_at}
+use Rattle.edi_plan.specs.Plans.{PlanData, record_at}
 use Rattle.edi_plan.specs.Sides.{Side}
 use Rattle.edi_topo.specs.inner.Faces.{IsFacedBelow, AreFacedBelow}
 
@@ -20,7 +20,7 @@ marked xs i x h = go (cases_eq x i)
         left (inl t) = t
         left (inr e) = absurd (ne e)
 
-module _ (p : Drawing) where
+module _ (p : PlanData) where
   pub faced_before : (xs : List Bool) → length xs ≡ length p.list → ((x : ℕ) → get_or xs x false ≡ false) → AreFacedBelow p 0 xs
   faced_before xs long none = record { long = long; each = λ x. (λ t. absurd (true≢false (sym t ∙ none x)), λ d. absurd (omega (arith, d.1))) }
 

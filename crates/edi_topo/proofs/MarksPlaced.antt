@@ -4,7 +4,7 @@ use Rattle.std.proofs.lemmas.Bool.{cases_eq}
 use Rattle.std.proofs.lemmas.List.{get_or_default}
 use Rattle.edi_record.specs.declared.record.Kind.{Kind}
 use Rattle.edi_plan.specs.Places.{places_of}
-use Rattle.edi_plan.specs.Plans.{Drawing}
+use Rattle.edi_plan.specs.Plans.{PlanData}
 use Rattle.edi_plan.proofs.PlaceLemmas.{place_there}
 use Rattle.edi_topo.specs.Marks.{IsPlaceOfMark, AreMarksOf}
 use Rattle.edi_topo.specs.inner.Placed.{IsPlaceOfMarkBelow}
@@ -50,7 +50,7 @@ module _ (places : List ℕ) (marks : List Bool) where
     each = λ x. (λ t. let d = (are.each x).0 t in (d.0, d.2, d.3, d.4), λ d. let l = d.1 in (are.each x).1 (d.0, omega (arith, l, past), l, d.2, d.3));
   }
 
-module _ (kind : Kind) (p : Drawing) where
+module _ (kind : Kind) (p : PlanData) where
   -- the members of a type are places of the plan
   pub places_within : (places : List ℕ) (count : ℕ) → places ≡ places_of kind p → count ≡ length p.list → All (λ place. place < count) places
   places_within places count e f k d h =

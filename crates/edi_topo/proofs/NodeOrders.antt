@@ -15,7 +15,7 @@ use Rattle.edi_record.proofs.ValueOrder.{extra_order}
 use Rattle.edi_schema.specs.Sorted.{sort_by}
 use Rattle.edi_schema.proofs.SortedLists.{sort_by-same, counts_from_permutation, IsPermutation-sort_by}
 use Rattle.edi_plan.specs.Orders.{attribute_cmp}
-use Rattle.edi_plan.specs.Plans.{Drawing, IsPlace, record_at}
+use Rattle.edi_plan.specs.Plans.{PlanData, IsPlace, record_at}
 use Rattle.edi_plan.specs.Whole.{IsWholePlan}
 use Rattle.edi_plan.specs.declared.record.PlanAttribute.{PlanAttribute}
 use Rattle.edi_plan.proofs.DerivedOrders.{attribute_order}
@@ -50,7 +50,7 @@ one_point [] h = absurd (true≢false (sym h))
 one_point (x ∷ []) h = refl
 one_point (x ∷ y ∷ points) h = let e : suc (suc (length points)) ≡ 1 = eqb-true _ _ h in absurd (omega (arith, e))
 
-pub keys_of_alike : (p : Drawing) (m n : ℕ) → AreEqualNodes p m n → node_key_cmp (node_key (record_at p m)) (node_key (record_at p n)) ≡ Equal
+pub keys_of_alike : (p : PlanData) (m n : ℕ) → AreEqualNodes p m n → node_key_cmp (node_key (record_at p m)) (node_key (record_at p n)) ≡ Equal
 keys_of_alike p m n d = subst (λ k. node_key_cmp (node_key (record_at p m)) k ≡ Equal) same (tied_itself node_key_total (node_key (record_at p m)))
   where
     same : node_key (record_at p m) ≡ node_key (record_at p n)
@@ -58,7 +58,7 @@ keys_of_alike p m n d = subst (λ k. node_key_cmp (node_key (record_at p m)) k �
         let t = sort_by-same attribute_cmp attribute_total attribute_exact (record_at p m).attributes (record_at p n).attributes (counts_from_permutation _ _ d.attributes) in
         λ i. record { point = get_or (d.points i) 0 no_point; class = d.class i; attributes = t i; extras = d.extras i }
 
-pub equal_from_keys : (p : Drawing) (m n : ℕ) → IsWholePlan p → IsPlace p m → IsPlace p n → (record_at p m).kind ≡ Pno → (record_at p n).kind ≡ Pno
+pub equal_from_keys : (p : PlanData) (m n : ℕ) → IsWholePlan p → IsPlace p m → IsPlace p n → (record_at p m).kind ≡ Pno → (record_at p n).kind ≡ Pno
     → node_key_cmp (node_key (record_at p m)) (node_key (record_at p n)) ≡ Equal → AreEqualNodes p m n
 equal_from_keys p m n whole first second node node' tie =
     let same = node_key_exact (node_key (record_at p m)) (node_key (record_at p n)) tie in

@@ -9,7 +9,7 @@ use Rattle.edi_schema.specs.Sorted.{sort_by}
 use Rattle.edi_record.specs.declared.record.Kind.TheVariants.{Pno}
 use Rattle.edi_plan.specs.Orders.{attribute_cmp}
 use Rattle.edi_plan.specs.Places.{places_of}
-use Rattle.edi_plan.specs.Plans.{Drawing, record_at}
+use Rattle.edi_plan.specs.Plans.{PlanData, record_at}
 use Rattle.edi_plan.specs.declared.record.PlanRecord.{PlanRecord}
 use Rattle.edi_topo.specs.Ranking.{IsRanking}
 use Rattle.edi_topo.specs.declared.node_key.NodeKey.{NodeKey}
@@ -33,7 +33,7 @@ node_key r = record {
 }
 
 -- the keys of the nodes, in file order
-abbrev pub node_keys : Drawing → List NodeKey
+abbrev pub node_keys : PlanData → List NodeKey
 node_keys p = map (λ k. node_key (record_at p k)) (places_of Pno p)
 
 -- what stands past the last key
@@ -41,6 +41,6 @@ abbrev pub no_node : NodeKey
 no_node = record { point = no_point; class = 0; attributes = []; extras = [] }
 
 -- the numbers of the nodes of a plan, in file order, by their keys
-abbrev pub IsNodeRanking : Drawing → List ℕ → Type 0
+abbrev pub IsNodeRanking : PlanData → List ℕ → Type 0
 IsNodeRanking p numbers =
     IsRanking node_key_cmp (λ m. slice_index_or (node_keys p) m no_node) (length (places_of Pno p)) numbers

@@ -4,11 +4,11 @@ use Rattle.edi_record.specs.declared.record.Point.{Point}
 use Rattle.edi_record.specs.declared.record.Kind.{Kind}
 use Rattle.edi_record.specs.declared.record.Kind.TheVariants.{Pno, Par, Pfe}
 use Rattle.edi_schema.specs.declared.role.Role.TheVariants.{Initial, Final, Left, Right}
-use Rattle.edi_plan.specs.Plans.{Drawing, IsPlace, record_at}
+use Rattle.edi_plan.specs.Plans.{PlanData, IsPlace, record_at}
 use Rattle.edi_plan.specs.Sides.{Side}
 
 -- two nodes that nothing but their identifiers and their links tells apart
-pub record AreEqualNodes (p : Drawing) (m n : ℕ) : Type 0 where
+pub record AreEqualNodes (p : PlanData) (m n : ℕ) : Type 0 where
   pub first : IsPlace p m
   pub second : IsPlace p n
   pub first_node : (record_at p m).kind ≡ Pno
@@ -18,7 +18,7 @@ pub record AreEqualNodes (p : Drawing) (m n : ℕ) : Type 0 where
   pub attributes : IsPermutation (record_at p m).attributes (record_at p n).attributes
   pub extras : (record_at p m).extras ≡ (record_at p n).extras
 
-module _ (p : Drawing) where
+module _ (p : PlanData) where
   -- the points of the record at a place from 0, of a kind
   abbrev pub HasPoints : Kind → ℕ → List Point → Type 0
   HasPoints kind k points = IsPlace p k × ((record_at p k).kind ≡ kind) × ((record_at p k).points ≡ points)

@@ -29,9 +29,9 @@ impl<'a> Model for ArcLayer<'a> {
     ghost use Rattle.std.specs.Prelude.{◌≡◌};
     ghost use Rattle.edi_record.specs.declared.record.Kind.TheVariants.{Par};
     ghost use Rattle.edi_plan.specs.Places.{places_of};
-    ghost use Rattle.edi_plan.specs.Plans.{Drawing};
+    ghost use Rattle.edi_plan.specs.Plans.{PlanData};
 
-    ghost Value = { Drawing };
+    ghost Value = { PlanData };
 
     ghost view = { λ l. l.plan.now };
 

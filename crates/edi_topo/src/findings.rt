@@ -34,13 +34,13 @@ pub struct TopologyFindings<'a> {
 
 impl<'a> Model for TopologyFindings<'a> {
     ghost use Rattle.std.specs.Prelude.{length};
-    ghost use Rattle.edi_plan.specs.Plans.{Drawing};
+    ghost use Rattle.edi_plan.specs.Plans.{PlanData};
     ghost use Rattle.edi_topo.specs.Marks.{AreMarksOf};
     ghost use Rattle.edi_topo.specs.inner.Arcs.{RepeatsAnEarlierArc};
     ghost use Rattle.edi_topo.specs.inner.Faces.{AreFaced};
     ghost use Rattle.edi_topo.specs.inner.Nodes.{RepeatsAnEarlier};
 
-    ghost Value = { Drawing };
+    ghost Value = { PlanData };
 
     ghost view = { λ f. f.plan.now };
 

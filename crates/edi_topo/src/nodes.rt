@@ -31,9 +31,9 @@ impl<'a> Model for NodeLayer<'a> {
     ghost use Rattle.std.specs.Prelude.{List, map, ◌≡◌, ◌≤◌, length};
     ghost use Rattle.edi_record.specs.declared.record.Kind.TheVariants.{Pno};
     ghost use Rattle.edi_plan.specs.Places.{places_of};
-    ghost use Rattle.edi_plan.specs.Plans.{Drawing};
+    ghost use Rattle.edi_plan.specs.Plans.{PlanData};
 
-    ghost Value = { Drawing };
+    ghost Value = { PlanData };
 
     ghost view = { λ n. n.plan.now };
 

@@ -36,9 +36,9 @@ pub struct Unsound {
 }
 
 impl Model for Sound {
-    ghost use Rattle.edi_plan.specs.Plans.{Drawing};
+    ghost use Rattle.edi_plan.specs.Plans.{PlanData};
 
-    ghost Value = { Drawing };
+    ghost Value = { PlanData };
 
     ghost use Rattle.edi_line.specs.Refusal.{IsUnbroken};
     ghost use Rattle.edi_topo.specs.Arcs.{IsForwardRanking};

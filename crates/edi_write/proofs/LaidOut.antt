@@ -8,7 +8,7 @@ use Rattle.std.proofs.lemmas.List.{length-map, take-map, take-append-le, length-
 use Rattle.std.proofs.lemmas.List.Elements.{recursion_from_All, All-from_recursion}
 use Rattle.std.proofs.lemmas.List.Sorted.{All-permutation, IsPermutation-sym, length_permutation}
 use Rattle.std.proofs.lemmas.Option.{get_or_from_slice_get}
-use Rattle.edi_line.specs.Entry.{Entry}
+use Rattle.edi_line.specs.ZoneData.{ZoneData}
 use Rattle.edi_line.specs.Printing.{zone_text, printed, printed_zone}
 use Rattle.edi_record.specs.CanonicalZones.{point_zone, sns_zone, end_text, begin_zone, cse_zone, end_zone}
 use Rattle.edi_record.specs.declared.record.Kind.{Kind}
@@ -16,7 +16,7 @@ use Rattle.edi_record.specs.declared.record.Kind.TheVariants.{Pno, Par, Pfe, Fea
 use Rattle.edi_schema.specs.Classes.{Classes}
 use Rattle.edi_schema.specs.Sorted.{sort_by}
 use Rattle.edi_schema.proofs.SortedLists.{count_by-cons, IsPermutation-sort_by}
-use Rattle.edi_plan.specs.Plans.{Drawing, IsPlace, record_at, kind_rank, same_kind, is_arc}
+use Rattle.edi_plan.specs.Plans.{PlanData, IsPlace, record_at, kind_rank, same_kind, is_arc}
 use Rattle.edi_plan.specs.Whole.{IsWholePlan}
 use Rattle.edi_plan.specs.declared.record.PlanRecord.{PlanRecord}
 use Rattle.edi_plan.specs.declared.record.PlanEnd.{PlanEnd}
@@ -56,7 +56,7 @@ all_of : {X : Type 0} (P : X → Type 0) (xs : List X) → ((i : ℕ) (x : X) �
 all_of P [] h = tt
 all_of P (x ∷ xs) h = (h 0 x refl, all_of P xs (λ i y e. h (suc i) y e))
 
-module _ (s : Classes) (p : Drawing) (l : Labelling) (labels : AreLabels s p l) where
+module _ (s : Classes) (p : PlanData) (l : Labelling) (labels : AreLabels s p l) where
   abbrev kind_at : ℕ → Kind
   kind_at k = (record_at p k).kind
 
@@ -132,7 +132,7 @@ module _ (s : Classes) (p : Drawing) (l : Labelling) (labels : AreLabels s p l) 
       (none_both (is_of Lnk) two l.faces (none_both (is_of Lnk) l.nodes l.arcs (no Lnk Pno (λ e. omega (arith, e))) (no Lnk Par (λ e. omega (arith, e)))) (no Lnk Pfe (λ e. omega (arith, e)))) (no Lnk Fea (λ e. omega (arith, e))) in
       count_behind (is_of Lnk) four l.links i (offset l Lnk + i) i (let a = four_long in omega (arith, a)) none (own Lnk i h)
 
-  abbrev after : Drawing
+  abbrev after : PlanData
   after = arranged s l p
 
   -- the number of a record of the arranged plan is that of its labels
@@ -213,7 +213,7 @@ module _ (s : Classes) (p : Drawing) (l : Labelling) (labels : AreLabels s p l) 
         (each_same 0 (old_places l) (λ j h. (let at = old_there j h in (at.0, ap (number_in s after) (let z : 0 + j ≡ j = omega arith in z) ∙ at.1))))
 
 -- the parts that were written one behind the other
-pub joined_parts : (begin : List Entry) (middle : List Entry) (end : Entry) (a b c d : List ℕ) → a ≡ [] → b ≡ a ++ printed begin → c ≡ b ++ printed middle → d ≡ c ++ printed_zone end → d ≡ printed (begin ++ (middle ++ end ∷ []))
+pub joined_parts : (begin : List ZoneData) (middle : List ZoneData) (end : ZoneData) (a b c d : List ℕ) → a ≡ [] → b ≡ a ++ printed begin → c ≡ b ++ printed middle → d ≡ c ++ printed_zone end → d ≡ printed (begin ++ (middle ++ end ∷ []))
 joined_parts begin middle end a b c d e f g h =
     let left : d ≡ (printed begin ++ printed middle) ++ printed_zone end = h ∙ ap (λ x. x ++ printed_zone end) (g ∙ ap (λ x. x ++ printed middle) (f ∙ ap (λ x. x ++ printed begin) e)) in
     let right : printed (begin ++ (middle ++ end ∷ [])) ≡ printed begin ++ (printed middle ++ printed_zone end) =

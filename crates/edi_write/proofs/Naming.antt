@@ -14,7 +14,7 @@ use Rattle.edi_record.proofs.Unique.{kind_again}
 use Rattle.edi_schema.specs.Classes.{Classes, is_name}
 use Rattle.edi_schema.proofs.Names.{same_name}
 use Rattle.edi_schema.proofs.SortedLists.{count_by-cons}
-use Rattle.edi_plan.specs.Plans.{Drawing, IsPlace, record_at, blank, kind_rank, same_kind}
+use Rattle.edi_plan.specs.Plans.{PlanData, IsPlace, record_at, blank, kind_rank, same_kind}
 use Rattle.edi_plan.specs.Whole.{IsWholePlan}
 use Rattle.edi_plan.specs.declared.record.PlanRecord.{PlanRecord}
 use Rattle.edi_write.specs.Layout.{identifier, name_in, number_in}
@@ -44,7 +44,7 @@ count_rises test d (x ∷ xs) (suc i) (suc k) less h is =
     let b = count_by-cons test x (take k xs) in
     omega (arith, more, a, b)
 
-module _ (s : Classes) (p : Drawing) where
+module _ (s : Classes) (p : PlanData) where
   number_rises : (i k : ℕ) → i < k → IsPlace p k → (record_at p i).kind ≡ (record_at p k).kind → number_in s p i < number_in s p k
   number_rises i k less h kind =
       let counts = count_rises (λ (r : PlanRecord). same_kind (record_at p k).kind r.kind) blank p.list i k less (omega (arith, h)) (eq-eqb (kind_rank (record_at p k).kind) (kind_rank (record_at p i).kind) (ap kind_rank (sym kind))) in

@@ -9,7 +9,7 @@ use Rattle.edi_schema.specs.declared.role.Role.{Role}
 use Rattle.edi_schema.specs.declared.role.Role.TheVariants.{Plain, Initial, Final, Left, Right}
 use Rattle.edi_schema.specs.declared.class.Class.{Class}
 use Rattle.edi_schema.specs.Classes.{Classes}
-use Rattle.edi_plan.specs.Plans.{Drawing}
+use Rattle.edi_plan.specs.Plans.{PlanData}
 use Rattle.edi_plan.specs.declared.record.PlanRecord.{PlanRecord}
 use Rattle.edi_line.specs.Number.{fraction_digits, size_text}
 use Rattle.edi_line.specs.inner.Number.{whole_number, fraction_number, number}
@@ -42,7 +42,7 @@ abbrev link : ℕ → Role → ℕ → ℕ → PlanRecord
 link class role a b = record { kind = Lnk; class = class; role = role; points = []; attributes = []; extras = []; ends = (record { target = a; sns = None }) ∷ (record { target = b; sns = None }) ∷ [] }
 
 -- one node
-abbrev node_sheet : Drawing
+abbrev node_sheet : PlanData
 node_sheet = record { cse = Some (codes "IRV"); list = bare Pno 2 (point 10500000 20000000 ∷ []) ∷ [] }
 
 node_sheet_file : layout known_schema node_sheet ≡ lines (codes "BOMT 09:CANON.VEC" ∷ codes "CSET 03:IRV" ∷ codes "RTYSA03:PNO" ∷ codes "RIDSA02:N1"
@@ -56,7 +56,7 @@ unfolding layout printed_zone broken_into content_text line_text next_zone point
 empty_sheet_file = refl
 
 -- a node, and an arc from it to it
-abbrev looped_arc : Drawing
+abbrev looped_arc : PlanData
 looped_arc = record {
   cse = None;
   list = bare Pno 2 (point 0 0 ∷ []) ∷ bare Par 0 (point 0 0 ∷ point 0 1000000 ∷ point 1000000 0 ∷ point 0 0 ∷ [])
@@ -73,7 +73,7 @@ unfolding layout printed_zone broken_into content_text line_text next_zone point
 looped_arc_file = refl
 
 -- the same arc backwards, with its links exchanged, and the records in another order
-abbrev backward_arc : Drawing
+abbrev backward_arc : PlanData
 backward_arc = record {
   cse = None;
   list = link 6 Initial 1 2 ∷ bare Par 0 (point 0 0 ∷ point 1000000 0 ∷ point 0 1000000 ∷ point 0 0 ∷ []) ∷ bare Pno 2 (point 0 0 ∷ []) ∷ link 4 Final 1 2 ∷ [];
@@ -86,7 +86,7 @@ backward_arc_turned : arranged known_schema backward_labels backward_arc ≡ loo
 backward_arc_turned = refl
 
 -- an object and two nodes, joined by a link whose first end is the object
-abbrev joined_nodes : Drawing
+abbrev joined_nodes : PlanData
 joined_nodes = record {
   cse = None;
   list = bare Pno 1 (point 1000000 1000000 ∷ []) ∷ bare Pno 1 (point 0 0 ∷ []) ∷ bare Fea 0 [] ∷ record {

@@ -18,7 +18,7 @@ use Rattle.edi_line.proofs.ZonesSaid.{zones_are}
 use Rattle.edi_record.proofs.StatesSaid.{states_unique, all_said}
 use Rattle.edi_plan.proofs.Built.{value_found}
 use Rattle.edi_write.specs.Laws.{LayoutHasPlan, LayoutPreservesReferences, LayoutIsSound}
-use Rattle.edi_line.specs.Entry.{Entry}
+use Rattle.edi_line.specs.ZoneData.{ZoneData}
 use Rattle.edi_line.proofs.ZonesFound.{zones_of, zones_in}
 use Rattle.edi_line.specs.inner.Number.{number}
 use Rattle.edi_line.specs.Printing.{IsOneLine}
@@ -56,7 +56,7 @@ use Rattle.edi_plan.specs.Agreeing.{Agrees}
 use Rattle.edi_plan.specs.ReferenceRules.{BreaksReferenceRule}
 use Rattle.edi_plan.specs.ReferenceRules.BreaksReferenceRule.{lacks_attribute_class}
 use Rattle.edi_plan.specs.PlanOf.{IsPlanOf, StatesPlanAttribute, StatesPlanEnd, StatesPlanRecord}
-use Rattle.edi_plan.specs.Plans.{Drawing, IsPlace, record_at, blank}
+use Rattle.edi_plan.specs.Plans.{PlanData, IsPlace, record_at, blank}
 use Rattle.edi_plan.specs.Whole.{IsWholePlan}
 use Rattle.edi_plan.specs.declared.record.PlanRecord.{PlanRecord}
 use Rattle.edi_plan.specs.declared.record.PlanAttribute.{PlanAttribute}
@@ -155,13 +155,13 @@ code_lacks Lnk = (All-from_recursion (λ x. eqb x 10 ≡ false) (kind_code Lnk) 
 
 -- ---- the ends that are written
 
-end_names : (s : Classes) (q : Drawing) → IsWholePlan q → (es : List PlanEnd) → AllByRecursion (λ e. IsName e.target) (map (written_end s q) es)
+end_names : (s : Classes) (q : PlanData) → IsWholePlan q → (es : List PlanEnd) → AllByRecursion (λ e. IsName e.target) (map (written_end s q) es)
 end_names s q whole [] = tt
 end_names s q whole (e ∷ es) =
     let kind = (record_at q e.target).kind in
     (record { rty = (code_lacks kind).1; rid = identifier_part kind (number_in s q e.target) (number_few s q whole e.target) }, end_names s q whole es)
 
-end_lines : (s : Classes) (q : Drawing) → IsWholePlan q → (es : List PlanEnd) → AllByRecursion (λ e. IfSome e.sns IsOneLine) es → AllByRecursion IsLineEnd (map (written_end s q) es)
+end_lines : (s : Classes) (q : PlanData) → IsWholePlan q → (es : List PlanEnd) → AllByRecursion (λ e. IfSome e.sns IsOneLine) es → AllByRecursion IsLineEnd (map (written_end s q) es)
 end_lines s q whole [] lines = tt
 end_lines s q whole (e ∷ es) lines =
     let kind = (record_at q e.target).kind in (
@@ -240,14 +240,14 @@ no_points Pfe ps may none = none_there ps may
 no_points Fea ps may none = none_there ps may
 no_points Lnk ps may none = none_there ps may
 
-no_ends : (s : Classes) (q : Drawing) (kind : Kind) (es : List PlanEnd) → may_have_ends kind (length es) ≡ true → is_link kind ≡ false → map (written_end s q) es ≡ []
+no_ends : (s : Classes) (q : PlanData) (kind : Kind) (es : List PlanEnd) → may_have_ends kind (length es) ≡ true → is_link kind ≡ false → map (written_end s q) es ≡ []
 no_ends s q Pno es may none = ap (map (written_end s q)) (none_there es may)
 no_ends s q Par es may none = ap (map (written_end s q)) (none_there es may)
 no_ends s q Pfe es may none = ap (map (written_end s q)) (none_there es may)
 no_ends s q Fea es may none = ap (map (written_end s q)) (none_there es may)
 no_ends s q Lnk es may none = absurd (true≢false none)
 
-module _ (s : Classes) (kinds : HasPrintableKinds s) (q : Drawing) (whole : IsWholePlan q) where
+module _ (s : Classes) (kinds : HasPrintableKinds s) (q : PlanData) (whole : IsWholePlan q) where
   -- the record y is the record x, which r states, carried to the place k
   carried_printable : (list : List Record) (r : Record) (x : PlanRecord) (to : ℕ → ℕ) (turned : ℕ → Bool) (i k : ℕ) → IsRecord r → IsLineRecord r → FollowsRules r
       → StatesPlanRecord s list r x → IsPlace q k → CarriesRecord s to turned i x (record_at q k) → CanPrint (written_record s q (number_in s q k) (record_at q k))
@@ -332,7 +332,7 @@ module _ (s : Classes) (kinds : HasPrintableKinds s) (q : Drawing) (whole : IsWh
           let f = zip_length (StatesPlanEnd list) r.ends x.ends states.ends in
           omega (arith, a, b, d, f, h)
 
-pub record_printable : (s : Classes) (list : List Record) (r : Record) (p q : Drawing) (to : ℕ → ℕ) (turned : ℕ → Bool) (k : ℕ) → HasPrintableKinds s → IsRecord r → IsLineRecord r → FollowsRules r
+pub record_printable : (s : Classes) (list : List Record) (r : Record) (p q : PlanData) (to : ℕ → ℕ) (turned : ℕ → Bool) (k : ℕ) → HasPrintableKinds s → IsRecord r → IsLineRecord r → FollowsRules r
     → StatesPlanRecord s list r (record_at p k) → Carries s to turned p q → IsWholePlan q → IsPlace p k
     → IsRecord (written_record s q (number_in s q (to k)) (record_at q (to k))) × IsLineRecord (written_record s q (number_in s q (to k)) (record_at q (to k)))
     × FollowsRules (written_record s q (number_in s q (to k)) (record_at q (to k)))
@@ -352,7 +352,7 @@ each_of : {X : Type 0} (P Q : X → Type 0) → ((x : X) → P x → Q x) → (x
 each_of P Q f [] all = tt
 each_of P Q f (x ∷ xs) all = (f x all.0, each_of P Q f xs all.1)
 
-pub written_printable : (s : Classes) (sheet : Sheet) (p q : Drawing) → HasPrintableKinds s → IsPrintableSheet sheet → IsPlanOf s sheet p → Same s p q → IsWholePlan q
+pub written_printable : (s : Classes) (sheet : Sheet) (p q : PlanData) → HasPrintableKinds s → IsPrintableSheet sheet → IsPlanOf s sheet p → Same s p q → IsWholePlan q
     → CanBePrinted q.cse (written_records s q)
 written_printable s sheet p q kinds printable plan same whole = record {
   set = subst (λ c. IfSome c IsOneLine) (sym (c.cse ∙ plan.set)) printable.cse;
@@ -390,7 +390,7 @@ types_stated s [] (a ∷ xs) types all = absurd all
 types_stated s (b ∷ bs) [] types all = absurd all
 types_stated s (b ∷ bs) (a ∷ xs) types all = (ap (λ (n : Name). n.rty) (name_is s b.atp a.atp all.0.class) ∙ types.0, types_stated s bs xs types.1 all.1)
 
-module _ (s : Classes) (sheet : Sheet) (p : Drawing) (unbroken : IsUnbroken (BreaksReferenceRule s sheet.list)) (plan : IsPlanOf s sheet p) where
+module _ (s : Classes) (sheet : Sheet) (p : PlanData) (unbroken : IsUnbroken (BreaksReferenceRule s sheet.list)) (plan : IsPlanOf s sheet p) where
   type_read : (k : ℕ) (r : Record) → slice_get sheet.list k ≡ Some r → (i : ℕ) (b : Attribute) → slice_get r.attributes i ≡ Some b → b.atp.rty ≡ codes "ATT"
   type_read k r here i b there = go (bytes_eq b.atp.rty (codes "ATT")) refl
     where
@@ -407,7 +407,7 @@ module _ (s : Classes) (sheet : Sheet) (p : Drawing) (unbroken : IsUnbroken (Bre
       let d = zip_at (StatesPlanRecord s sheet.list) sheet.list p.list plan.each k blank h in
       types_stated s d.0.attributes (record_at p k).attributes (all_found (λ b. b.atp.rty ≡ codes "ATT") d.0.attributes (λ i b e. type_read k d.0 d.1 i b e)) d.2.attributes
 
-pub attribute_classes : (s : Classes) (sheet : Sheet) (p q : Drawing) → IsUnbroken (BreaksReferenceRule s sheet.list) → IsPlanOf s sheet p → Same s p q → HasAttributeClasses s q
+pub attribute_classes : (s : Classes) (sheet : Sheet) (p q : PlanData) → IsUnbroken (BreaksReferenceRule s sheet.list) → IsPlanOf s sheet p → Same s p q → HasAttributeClasses s q
 attribute_classes s sheet p q unbroken plan same = all_places (λ r. AllByRecursion (λ a. (class_name_of s a.atp).rty ≡ codes "ATT") r.attributes) q.list blank each
   where
     each : (k : ℕ) → IsPlace q k → AllByRecursion (λ a. (class_name_of s a.atp).rty ≡ codes "ATT") (record_at q k).attributes
@@ -418,10 +418,10 @@ attribute_classes s sheet p q unbroken plan same = all_places (λ r. AllByRecurs
 
 -- ---- the layout, read again
 
-one_sheet : (gs : List (List Entry)) (rs qs : List Record) → AllZip States gs rs → AllZip States gs qs → rs ≡ qs
+one_sheet : (gs : List (List ZoneData)) (rs qs : List Record) → AllZip States gs rs → AllZip States gs qs → rs ≡ qs
 one_sheet gs rs qs h g = zip_one States States states_unique gs rs qs h g
 
-read_list : (s : Classes) (q : Drawing) (sheet : Sheet) → IsSchema s → HasPrintableLetters (letters s) → IsWholePlan q → Agrees s q → CanBePrinted q.cse (written_records s q)
+read_list : (s : Classes) (q : PlanData) (sheet : Sheet) → IsSchema s → HasPrintableLetters (letters s) → IsWholePlan q → Agrees s q → CanBePrinted q.cse (written_records s q)
     → StatesSheet (zones_of (layout s q)) sheet → (sheet.cse ≡ q.cse) × (sheet.list ≡ map (settled_record (letters s)) (written_records s q))
 read_list s q sheet keeps printable whole agrees can states =
     let rs = written_records s q in
@@ -430,7 +430,7 @@ read_list s q sheet keeps printable whole agrees can states =
     (stated.cse ∙ again.0, one_sheet _ sheet.list (map (settled_record (letters s)) rs) stated.records (all_said _ (map (settled_record (letters s)) rs) again.1))
 
 -- whatever zones the lines of the layout have
-zones_same : (s : Classes) (q : Drawing) (readings : List Reading) (zones : List Entry) → AreReadings (layout s q) readings → IsZonesIn readings zones → zones ≡ zones_of (layout s q)
+zones_same : (s : Classes) (q : PlanData) (readings : List Reading) (zones : List ZoneData) → AreReadings (layout s q) readings → IsZonesIn readings zones → zones ≡ zones_of (layout s q)
 zones_same s q readings zones say are = zones_are readings zones are ∙ ap zones_in (readings_are (layout s q) readings say)
 
 pub layout_plan : LayoutHasPlan
@@ -448,7 +448,7 @@ layout_sound s q keeps printable whole agrees can =
     let rs = written_records s q in
     let few : length rs ≤ 9999999 = let f = whole.few in omega (arith, f, written_count s q) in
     let sound = sheet_sound (letters s) q.cse rs printable can.set can.records can.lines can.rules few in
-    subst (λ bytes. (zones : List Entry) × IsZonesOf bytes zones × IsUnbroken (BreaksLineRule bytes) × IsUnbroken (BreaksRecordRule zones))
+    subst (λ bytes. (zones : List ZoneData) × IsZonesOf bytes zones × IsUnbroken (BreaksLineRule bytes) × IsUnbroken (BreaksRecordRule zones))
     (sym (written_layout s q keeps whole agrees)) (sound.zones, sound.are_zones, sound.lines, sound.records)
 
 -- ---- the letters of a schema

@@ -32,7 +32,7 @@ use Rattle.edi_schema.proofs.InPlace.{found_in_place}
 use Rattle.edi_schema.proofs.Names.{name_itself}
 use Rattle.edi_plan.specs.Agreeing.{AttributeAgrees, RecordAgrees, Agrees}
 use Rattle.edi_plan.specs.PlanOf.{IsPlanOf, StatesPlanAttribute, StatesPlanEnd, StatesPlanRecord, own_name, place_named}
-use Rattle.edi_plan.specs.Plans.{Drawing, IsPlace, record_at, blank}
+use Rattle.edi_plan.specs.Plans.{PlanData, IsPlace, record_at, blank}
 use Rattle.edi_plan.specs.Whole.{IsWholePlan}
 use Rattle.edi_plan.specs.declared.record.PlanRecord.{PlanRecord}
 use Rattle.edi_plan.specs.declared.record.PlanAttribute.{PlanAttribute}
@@ -97,7 +97,7 @@ attributes_same : (s : Classes) → IsSchema s → (xs : List PlanAttribute) →
 attributes_same s keeps [] agree = refl
 attributes_same s keeps (a ∷ xs) agree = ap₂ ◌++◌ (attribute_same s keeps a agree.0) (attributes_same s keeps xs agree.1)
 
-ends_same : (s : Classes) (p : Drawing) (es : List PlanEnd) → flat_map (end_zones s p) es ≡ flat_map records.zones_of_end (map (written_end s p) es)
+ends_same : (s : Classes) (p : PlanData) (es : List PlanEnd) → flat_map (end_zones s p) es ≡ flat_map records.zones_of_end (map (written_end s p) es)
 unfolding records.zones_of_end
 ends_same s p [] = refl
 ends_same s p (e ∷ es) = ap (λ zs. end_zones s p e ++ zs) (ends_same s p es)
@@ -110,7 +110,7 @@ pub none_there : {X : Type 0} (xs : List X) → nat_eq (length xs) 0 ≡ true �
 none_there [] h = refl
 none_there (x ∷ xs) h = let e : suc (length xs) ≡ 0 = eqb-true _ _ h in absurd (omega (arith, e))
 
-body_same : (s : Classes) (p : Drawing) (r : PlanRecord) (kind : Kind) → may_have_points kind (length r.points) ≡ true → may_have_ends kind (length r.ends) ≡ true
+body_same : (s : Classes) (p : PlanData) (r : PlanRecord) (kind : Kind) → may_have_points kind (length r.points) ≡ true → may_have_ends kind (length r.ends) ≡ true
     → body_zones s p kind r ≡ records.zones_of_body kind r.points (map (written_end s p) r.ends)
 unfolding records.zones_of_body
 body_same s p r Pno points ends =
@@ -124,22 +124,22 @@ body_same s p r Lnk points ends =
     ap₂ (λ n zs. zone_text (codes "FTC") 83 78 (decimal n) ∷ zs) (sym (length-map r.ends (written_end s p)))
     (ends_same s p r.ends ∙ ap (λ ps. map point_zone ps ++ flat_map records.zones_of_end (map (written_end s p) r.ends)) (sym (none_there r.points points)))
 
-record_same : (s : Classes) → IsSchema s → (p : Drawing) (number : ℕ) (r : PlanRecord) → RecordAgrees s r → IsShaped r
+record_same : (s : Classes) → IsSchema s → (p : PlanData) (number : ℕ) (r : PlanRecord) → RecordAgrees s r → IsShaped r
     → record_zones s p number r ≡ records.zones_of_record (letters s) (written_record s p number r)
 unfolding records.zones_of_record
 record_same s keeps p number r agrees shaped =
     ap (λ zs. zone_text (codes "RTY") 83 65 (kind_code r.kind) ∷ zone_text (codes "RID") 83 65 (identifier r.kind number) ∷ zone_text (codes "SCP") 67 80 (class_text (class_name_of s r.class)) ∷ zs)
     (ap₂ ◌++◌ (body_same s p r r.kind shaped.0 shaped.1) (ap₂ (λ n zs. zone_text (codes "ATC") 83 78 (decimal n) ∷ (zs ++ map extra_zone r.extras)) (sym (length-map r.attributes (written_attribute s))) (attributes_same s keeps r.attributes agrees.attributes)))
 
-zones_same : (s : Classes) → IsSchema s → (p : Drawing) (place : ℕ) (rs : List PlanRecord) → AllByRecursion (RecordAgrees s) rs → AllByRecursion IsShaped rs
+zones_same : (s : Classes) → IsSchema s → (p : PlanData) (place : ℕ) (rs : List PlanRecord) → AllByRecursion (RecordAgrees s) rs → AllByRecursion IsShaped rs
     → zones_from s p place rs ≡ flat_map (records.zones_of_record (letters s)) (written_from s p place rs)
 zones_same s keeps p place [] agree shaped = refl
 zones_same s keeps p place (r ∷ rs) agree shaped = ap₂ ◌++◌ (record_same s keeps p (number_in s p place) r agree.0 shaped.0) (zones_same s keeps p (place + 1) rs agree.1 shaped.1)
 
-pub all_shaped : (p : Drawing) → IsWholePlan p → AllByRecursion IsShaped p.list
+pub all_shaped : (p : PlanData) → IsWholePlan p → AllByRecursion IsShaped p.list
 all_shaped p whole = all_places IsShaped p.list blank (λ k h. (whole.points k h, whole.ends k h))
 
-pub written_layout : (s : Classes) (p : Drawing) → IsSchema s → IsWholePlan p → Agrees s p → layout s p ≡ records.records_layout (letters s) p.cse (written_records s p)
+pub written_layout : (s : Classes) (p : PlanData) → IsSchema s → IsWholePlan p → Agrees s p → layout s p ≡ records.records_layout (letters s) p.cse (written_records s p)
 unfolding layout
 written_layout s p keeps whole agrees =
     ap (λ zs. printed (begin_zone ∷ (map cse_zone (option_to_list p.cse) ++ (zs ++ end_zone ∷ [])))) (zones_same s keeps p 0 p.list agrees (all_shaped p whole))
@@ -158,13 +158,13 @@ states_attributes s keeps [] agree = tt
 states_attributes s keeps (a ∷ xs) agree = (states_attribute s keeps a agree.0, states_attributes s keeps xs agree.1)
 
 -- what is read of what is written
-abbrev pub read_from : Classes → Drawing → ℕ → List PlanRecord → List Record
+abbrev pub read_from : Classes → PlanData → ℕ → List PlanRecord → List Record
 read_from s p place rs = map (settled_record (letters s)) (written_from s p place rs)
 
-abbrev pub read_records : Classes → Drawing → List Record
+abbrev pub read_records : Classes → PlanData → List Record
 read_records s p = read_from s p 0 p.list
 
-abbrev pub read_record : Classes → Drawing → ℕ → Record
+abbrev pub read_record : Classes → PlanData → ℕ → Record
 read_record s p k = settled_record (letters s) (written_record s p (number_in s p k) (record_at p k))
 
 -- ---- each end finds what it names
@@ -178,28 +178,28 @@ first_passing test (y ∷ ys) (suc k) x h is before =
     let more = first_passing test ys k x h is (λ i z less e. before (suc i) z (omega (arith, less)) e) in
     rw other (omega (arith, more))
 
-written_long : (s : Classes) (p : Drawing) (place : ℕ) (rs : List PlanRecord) → length (written_from s p place rs) ≡ length rs
+written_long : (s : Classes) (p : PlanData) (place : ℕ) (rs : List PlanRecord) → length (written_from s p place rs) ≡ length rs
 written_long s p place [] = refl
 written_long s p place (r ∷ rs) = ap suc (written_long s p (place + 1) rs)
 
-pub written_count : (s : Classes) (p : Drawing) → length (written_records s p) ≡ length p.list
+pub written_count : (s : Classes) (p : PlanData) → length (written_records s p) ≡ length p.list
 written_count s p = written_long s p 0 p.list
 
-written_at_from : (s : Classes) (p : Drawing) (place : ℕ) (rs : List PlanRecord) (j : ℕ) → j < length rs → slice_get (written_from s p place rs) j ≡ Some (written_record s p (number_in s p (place + j)) (get_or rs j blank))
+written_at_from : (s : Classes) (p : PlanData) (place : ℕ) (rs : List PlanRecord) (j : ℕ) → j < length rs → slice_get (written_from s p place rs) j ≡ Some (written_record s p (number_in s p (place + j)) (get_or rs j blank))
 written_at_from s p place [] j h = absurd (omega (arith, h))
 written_at_from s p place (r ∷ rs) zero h = ap (λ k. Some (written_record s p (number_in s p k) r)) (let z : place ≡ place + 0 = omega arith in z)
 written_at_from s p place (r ∷ rs) (suc j) h =
     written_at_from s p (place + 1) rs j (omega (arith, h)) ∙ ap (λ k. Some (written_record s p (number_in s p k) (get_or rs j blank))) (let z : (place + 1) + j ≡ place + suc j = omega arith in z)
 
-pub written_at : (s : Classes) (p : Drawing) (k : ℕ) → IsPlace p k → slice_get (written_records s p) k ≡ Some (written_record s p (number_in s p k) (record_at p k))
+pub written_at : (s : Classes) (p : PlanData) (k : ℕ) → IsPlace p k → slice_get (written_records s p) k ≡ Some (written_record s p (number_in s p k) (record_at p k))
 written_at s p k h = written_at_from s p 0 p.list k h ∙ ap (λ j. Some (written_record s p (number_in s p j) (record_at p k))) (let z : 0 + k ≡ k = omega arith in z)
 
 -- at each place of the plan a list has a record with the name that is written there
-record HasNames (s : Classes) (p : Drawing) (list : List Record) : Type 0 where
+record HasNames (s : Classes) (p : PlanData) (list : List Record) : Type 0 where
   pub long : length list ≡ length p.list
   pub at : (k : ℕ) → IsPlace p k → (r : Record) × (slice_get list k ≡ Some r) × (own_name r ≡ name_in s p k)
 
-named_place : (s : Classes) (p : Drawing) → IsWholePlan p → (list : List Record) → HasNames s p list → (k : ℕ) → IsPlace p k → place_named list (name_in s p k) ≡ Some k
+named_place : (s : Classes) (p : PlanData) → IsWholePlan p → (list : List Record) → HasNames s p list → (k : ℕ) → IsPlace p k → place_named list (name_in s p k) ≡ Some k
 named_place s p whole list names k h =
     let here = names.at k h in
     let long = names.long in
@@ -215,36 +215,36 @@ named_place s p whole list names k h =
         let same : y ≡ at.0 = same_Some y at.0 (sym e ∙ at.1) in
         ap (is_name (name_in s p k)) (ap own_name same ∙ at.2) ∙ names_apart s p whole i k there h less
 
-pub written_named : (s : Classes) (p : Drawing) → IsWholePlan p → (k : ℕ) → IsPlace p k → place_named (written_records s p) (name_in s p k) ≡ Some k
+pub written_named : (s : Classes) (p : PlanData) → IsWholePlan p → (k : ℕ) → IsPlace p k → place_named (written_records s p) (name_in s p k) ≡ Some k
 written_named s p whole = named_place s p whole (written_records s p) (record { long = written_count s p; at = λ k h. (written_record s p (number_in s p k) (record_at p k), written_at s p k h, refl) })
 
-pub read_at : (s : Classes) (p : Drawing) (k : ℕ) → IsPlace p k → slice_get (read_records s p) k ≡ Some (read_record s p k)
+pub read_at : (s : Classes) (p : PlanData) (k : ℕ) → IsPlace p k → slice_get (read_records s p) k ≡ Some (read_record s p k)
 read_at s p k h = slice_get-map (settled_record (letters s)) (written_records s p) k ∙ ap (option_map (settled_record (letters s))) (written_at s p k h)
 
-pub read_count : (s : Classes) (p : Drawing) → length (read_records s p) ≡ length p.list
+pub read_count : (s : Classes) (p : PlanData) → length (read_records s p) ≡ length p.list
 read_count s p = length-map (written_records s p) (settled_record (letters s)) ∙ written_count s p
 
-pub read_back : (s : Classes) (p : Drawing) (k : ℕ) (r : Record) → slice_get (read_records s p) k ≡ Some r → IsPlace p k × (r ≡ read_record s p k)
+pub read_back : (s : Classes) (p : PlanData) (k : ℕ) (r : Record) → slice_get (read_records s p) k ≡ Some r → IsPlace p k × (r ≡ read_record s p k)
 read_back s p k r e =
     let within = slice_get_within (read_records s p) k r e in
     let long = read_count s p in
     let there : IsPlace p k = omega (arith, within, long) in
     (there, same_Some r (read_record s p k) (sym e ∙ read_at s p k there))
 
-pub read_named : (s : Classes) (p : Drawing) → IsWholePlan p → (k : ℕ) → IsPlace p k → place_named (read_records s p) (name_in s p k) ≡ Some k
+pub read_named : (s : Classes) (p : PlanData) → IsWholePlan p → (k : ℕ) → IsPlace p k → place_named (read_records s p) (name_in s p k) ≡ Some k
 read_named s p whole = named_place s p whole (read_records s p) (record { long = read_count s p; at = λ k h. (read_record s p k, read_at s p k h, refl) })
 
 -- ---- the records that are read
 
-states_ends : (s : Classes) (p : Drawing) (list : List Record) → ((k : ℕ) → IsPlace p k → place_named list (name_in s p k) ≡ Some k) → (es : List PlanEnd) → AllByRecursion (λ e. IsPlace p e.target) es
+states_ends : (s : Classes) (p : PlanData) (list : List Record) → ((k : ℕ) → IsPlace p k → place_named list (name_in s p k) ≡ Some k) → (es : List PlanEnd) → AllByRecursion (λ e. IsPlace p e.target) es
     → AllZip (StatesPlanEnd list) (map settled_end (map (written_end s p) es)) es
 states_ends s p list named [] there = tt
 states_ends s p list named (e ∷ es) there = (record { target = named e.target there.0; sns = refl }, states_ends s p list named es there.1)
 
-abbrev EndsThere : Drawing → PlanRecord → Type 0
+abbrev EndsThere : PlanData → PlanRecord → Type 0
 EndsThere p r = AllByRecursion (λ e. IsPlace p e.target) r.ends
 
-states_record : (s : Classes) → IsSchema s → (p : Drawing) (list : List Record) → ((k : ℕ) → IsPlace p k → place_named list (name_in s p k) ≡ Some k) → (number : ℕ) (r : PlanRecord) → RecordAgrees s r → EndsThere p r
+states_record : (s : Classes) → IsSchema s → (p : PlanData) (list : List Record) → ((k : ℕ) → IsPlace p k → place_named list (name_in s p k) ≡ Some k) → (number : ℕ) (r : PlanRecord) → RecordAgrees s r → EndsThere p r
     → StatesPlanRecord s list (settled_record (letters s) (written_record s p number r)) r
 states_record s keeps p list named number r agrees there = record {
   kind = refl;
@@ -256,12 +256,12 @@ states_record s keeps p list named number r agrees there = record {
   ends = states_ends s p list named r.ends there;
 }
 
-states_each : (s : Classes) → IsSchema s → (p : Drawing) (list : List Record) → ((k : ℕ) → IsPlace p k → place_named list (name_in s p k) ≡ Some k) → (place : ℕ) (rs : List PlanRecord) → AllByRecursion (RecordAgrees s) rs → AllByRecursion (EndsThere p) rs
+states_each : (s : Classes) → IsSchema s → (p : PlanData) (list : List Record) → ((k : ℕ) → IsPlace p k → place_named list (name_in s p k) ≡ Some k) → (place : ℕ) (rs : List PlanRecord) → AllByRecursion (RecordAgrees s) rs → AllByRecursion (EndsThere p) rs
     → AllZip (StatesPlanRecord s list) (read_from s p place rs) rs
 states_each s keeps p list named place [] agree there = tt
 states_each s keeps p list named place (r ∷ rs) agree there = (states_record s keeps p list named (number_in s p place) r agree.0 there.0, states_each s keeps p list named (place + 1) rs agree.1 there.1)
 
-pub written_plan : (s : Classes) (p : Drawing) (sheet : Sheet) → IsSchema s → IsWholePlan p → Agrees s p
+pub written_plan : (s : Classes) (p : PlanData) (sheet : Sheet) → IsSchema s → IsWholePlan p → Agrees s p
     → sheet.cse ≡ p.cse → sheet.list ≡ map (settled_record (letters s)) (written_records s p) → IsPlanOf s sheet p
 written_plan s p sheet keeps whole agrees set list = record {
   set = sym set;

@@ -18,7 +18,7 @@ use Rattle.edi_plan.specs.Agreeing.{AttributeAgrees, RecordAgrees, Agrees}
 use Rattle.edi_plan.specs.Joined.{beside, HasEnds, IsJoin, IsJoined, JoinsArc}
 use Rattle.edi_plan.specs.PlanOf.{own_name, place_named}
 use Rattle.edi_record.specs.Records.{is_link}
-use Rattle.edi_plan.specs.Plans.{Drawing, IsPlace, record_at, blank}
+use Rattle.edi_plan.specs.Plans.{PlanData, IsPlace, record_at, blank}
 use Rattle.edi_plan.specs.ReferenceRules.{BreaksReferenceRule, IsLinkOfRole, JoinsArcTo, Names, RepeatsRecordName, HasUnknownClass, LacksAttributeClass, LeavesSubset, NamesNothing, JoinsWrong, RepeatsSide}
 use Rattle.edi_plan.specs.ReferenceRules.BreaksReferenceRule.{repeats_name, lacks_class, lacks_attribute_class, leaves_subset, names_nothing, joins_wrong, repeats_side}
 use Rattle.edi_plan.specs.Whole.{IsWholePlan}
@@ -64,7 +64,7 @@ two_ends (x ∷ []) a b h = cc
 two_ends (x ∷ y ∷ []) a b h = (x, y, refl, cc, cc)
 two_ends (x ∷ y ∷ z ∷ es) a b h = cc
 
-module _ (s : Classes) (p : Drawing) (keeps : IsSchema s) (whole : IsWholePlan p) (agrees : Agrees s p) where
+module _ (s : Classes) (p : PlanData) (keeps : IsSchema s) (whole : IsWholePlan p) (agrees : Agrees s p) where
   abbrev list : List Record
   list = read_records s p
 
@@ -297,7 +297,7 @@ module _ (s : Classes) (p : Drawing) (keeps : IsSchema s) (whole : IsWholePlan p
         (subst (λ j. HasEnds p (m - 1) j d.other) (sym arc_before) d.ends) (subst (λ j. HasEnds p (at - 1) j e.other) (sym arc_here) e.ends) in
         omega (arith, one, h.5, h.6.0, h.7.0)
 
-pub written_references : (s : Classes) (p : Drawing) → IsSchema s → IsWholePlan p → Agrees s p → IsJoined p → HasAttributeClasses s p
+pub written_references : (s : Classes) (p : PlanData) → IsSchema s → IsWholePlan p → Agrees s p → IsJoined p → HasAttributeClasses s p
     → IsUnbroken (BreaksReferenceRule s (map (settled_record (letters s)) (written_records s p)))
 written_references s p keeps whole agrees joined types rule at (repeats_name e h) = no_repeat s p keeps whole agrees at h
 written_references s p keeps whole agrees joined types rule at (lacks_class e h) = no_class_lacks s p keeps whole agrees at h

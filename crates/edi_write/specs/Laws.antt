@@ -2,7 +2,7 @@
 use Rattle.std.specs.Prelude.{◌≡◌, ℕ, Bool, List, map, Some}
 use Rattle.edi_line.specs.Refusal.{IsUnbroken}
 use Rattle.edi_line.specs.LineRules.{BreaksLineRule, IsZonesOf}
-use Rattle.edi_line.specs.Entry.{Entry}
+use Rattle.edi_line.specs.ZoneData.{ZoneData}
 use Rattle.edi_line.specs.Spelling.{Reading, AreReadings}
 use Rattle.edi_line.specs.Zones.{IsZonesIn}
 use Rattle.edi_record.specs.RecordRules.{BreaksRecordRule}
@@ -16,7 +16,7 @@ use Rattle.edi_schema.specs.Classes.{Classes, IsSchema, IsPaired}
 use Rattle.edi_plan.specs.Agreeing.{Agrees}
 use Rattle.edi_plan.specs.Joined.{IsJoined}
 use Rattle.edi_plan.specs.PlanOf.{IsPlanOf, StatesPlanRecord, place_named}
-use Rattle.edi_plan.specs.Plans.{Drawing, IsPlace, record_at}
+use Rattle.edi_plan.specs.Plans.{PlanData, IsPlace, record_at}
 use Rattle.edi_plan.specs.ReferenceRules.{BreaksReferenceRule}
 use Rattle.edi_plan.specs.Whole.{IsWholePlan}
 use Rattle.edi_rank.specs.Arranged.{arranged}
@@ -28,33 +28,33 @@ use Rattle.edi_write.specs.Written.{letters, written_record, written_records, Ha
 -- The layout of a plan is that of the records that are written of it.
 abbrev pub WrittenLayout : Type 0
 WrittenLayout =
-    (s : Classes) (p : Drawing) → IsSchema s → IsWholePlan p → Agrees s p
+    (s : Classes) (p : PlanData) → IsSchema s → IsWholePlan p → Agrees s p
     → layout s p ≡ records.records_layout (letters s) p.cse (written_records s p)
 
 -- The name that is written of a record names it among the records that are written.
 abbrev pub WrittenIsNamed : Type 0
 WrittenIsNamed =
-    (s : Classes) (p : Drawing) → IsWholePlan p → (k : ℕ) → IsPlace p k
+    (s : Classes) (p : PlanData) → IsWholePlan p → (k : ℕ) → IsPlace p k
     → place_named (written_records s p) (name_in s p k) ≡ Some k
 
 -- The plan of a sheet with the records that are written of a plan, as they are read, is that plan.
 abbrev pub WrittenIsPlanOf : Type 0
 WrittenIsPlanOf =
-    (s : Classes) (p : Drawing) (sheet : Sheet) → IsSchema s → IsWholePlan p → Agrees s p
+    (s : Classes) (p : PlanData) (sheet : Sheet) → IsSchema s → IsWholePlan p → Agrees s p
     → sheet.cse ≡ p.cse → sheet.list ≡ map (settled_record (letters s)) (written_records s p) → IsPlanOf s sheet p
 
 -- The records that are written of a plan, as they are read, break no rule of references, where its links are joins and
 -- each attribute's class is of type ATT.
 abbrev pub WrittenPreservesReferences : Type 0
 WrittenPreservesReferences =
-    (s : Classes) (p : Drawing) → IsSchema s → IsWholePlan p → Agrees s p → IsJoined p → HasAttributeClasses s p
+    (s : Classes) (p : PlanData) → IsSchema s → IsWholePlan p → Agrees s p → IsJoined p → HasAttributeClasses s p
     → IsUnbroken (BreaksReferenceRule s (map (settled_record (letters s)) (written_records s p)))
 
 -- Where a record that was read can be printed, so can what is written of it on a plan that a renaming carries it onto,
 -- if the classes of the four kinds can.
 abbrev pub WrittenRecordIsPrintable : Type 0
 WrittenRecordIsPrintable =
-    (s : Classes) (list : List Record) (r : Record) (p q : Drawing) (to : ℕ → ℕ) (turned : ℕ → Bool) (k : ℕ)
+    (s : Classes) (list : List Record) (r : Record) (p q : PlanData) (to : ℕ → ℕ) (turned : ℕ → Bool) (k : ℕ)
     → HasPrintableKinds s → IsRecord r → IsLineRecord r → FollowsRules r
     → StatesPlanRecord s list r (record_at p k) → Carries s to turned p q → IsWholePlan q → IsPlace p k
     → IsRecord (written_record s q (number_in s q (to k)) (record_at q (to k)))
@@ -65,7 +65,7 @@ WrittenRecordIsPrintable =
 -- classes of the four kinds can.
 abbrev pub WrittenIsPrintable : Type 0
 WrittenIsPrintable =
-    (s : Classes) (sheet : Sheet) (p q : Drawing) → HasPrintableKinds s → IsPrintableSheet sheet → IsPlanOf s sheet p
+    (s : Classes) (sheet : Sheet) (p q : PlanData) → HasPrintableKinds s → IsPrintableSheet sheet → IsPlanOf s sheet p
     → Same s p q → IsWholePlan q
     → CanBePrinted q.cse (written_records s q)
 
@@ -73,14 +73,14 @@ WrittenIsPrintable =
 -- references.
 abbrev pub WrittenHasAttributeClasses : Type 0
 WrittenHasAttributeClasses =
-    (s : Classes) (sheet : Sheet) (p q : Drawing) → IsUnbroken (BreaksReferenceRule s sheet.list) → IsPlanOf s sheet p
+    (s : Classes) (sheet : Sheet) (p q : PlanData) → IsUnbroken (BreaksReferenceRule s sheet.list) → IsPlanOf s sheet p
     → Same s p q → HasAttributeClasses s q
 
 -- Each sheet that the zones of the layout state has the plan that was laid out, where the records that are written of
 -- it can be printed.
 abbrev pub LayoutHasPlan : Type 0
 LayoutHasPlan =
-    (s : Classes) (q : Drawing) (sheet : Sheet) (readings : List Reading) (zones : List Entry) → IsSchema s
+    (s : Classes) (q : PlanData) (sheet : Sheet) (readings : List Reading) (zones : List ZoneData) → IsSchema s
     → HasPrintableLetters (letters s) → IsWholePlan q → Agrees s q
     → CanBePrinted q.cse (written_records s q) → AreReadings (layout s q) readings → IsZonesIn readings zones
     → StatesSheet zones sheet → IsPlanOf s sheet q
@@ -89,7 +89,7 @@ LayoutHasPlan =
 -- ATT.
 abbrev pub LayoutPreservesReferences : Type 0
 LayoutPreservesReferences =
-    (s : Classes) (q : Drawing) (sheet : Sheet) (readings : List Reading) (zones : List Entry) → IsSchema s
+    (s : Classes) (q : PlanData) (sheet : Sheet) (readings : List Reading) (zones : List ZoneData) → IsSchema s
     → HasPrintableLetters (letters s) → IsWholePlan q → Agrees s q
     → CanBePrinted q.cse (written_records s q) → IsJoined q → HasAttributeClasses s q
     → AreReadings (layout s q) readings → IsZonesIn readings zones → StatesSheet zones sheet
@@ -98,9 +98,9 @@ LayoutPreservesReferences =
 -- The layout has zones, and breaks no rule of lines and of records, where the records that are written can be printed.
 abbrev pub LayoutIsSound : Type 0
 LayoutIsSound =
-    (s : Classes) (q : Drawing) → IsSchema s → HasPrintableLetters (letters s) → IsWholePlan q → Agrees s q
+    (s : Classes) (q : PlanData) → IsSchema s → HasPrintableLetters (letters s) → IsWholePlan q → Agrees s q
     → CanBePrinted q.cse (written_records s q)
-    → (zones : List Entry) × IsZonesOf (layout s q) zones × IsUnbroken (BreaksLineRule (layout s q))
+    → (zones : List ZoneData) × IsZonesOf (layout s q) zones × IsUnbroken (BreaksLineRule (layout s q))
     × IsUnbroken (BreaksRecordRule zones)
 
 -- The letters of a schema can be printed.
@@ -114,5 +114,5 @@ SchemasHavePrintableKinds = (s : Classes) → IsSchema s → HasPrintableKinds s
 -- The plan that labels make of a plan keeps what each plan keeps, and its joins.
 abbrev pub ArrangedIsPlan : Type 0
 ArrangedIsPlan =
-    (s : Classes) (p : Drawing) (l : Labelling) → IsPaired s → IsWholePlan p → Agrees s p → IsJoined p → AreLabels s p l
+    (s : Classes) (p : PlanData) (l : Labelling) → IsPaired s → IsWholePlan p → Agrees s p → IsJoined p → AreLabels s p l
     → IsWholePlan (arranged s l p) × Agrees s (arranged s l p) × IsJoined (arranged s l p)

@@ -10,7 +10,7 @@ use Rattle.edi_record.specs.declared.record.End.{End}
 use Rattle.edi_record.specs.declared.name.Name.{Name}
 use Rattle.edi_schema.specs.Classes.{Classes, letter_named, is_number_named, role_of, partner_of}
 use Rattle.edi_schema.specs.Roles.{is_plain}
-use Rattle.edi_plan.specs.Plans.{Drawing}
+use Rattle.edi_plan.specs.Plans.{PlanData}
 use Rattle.edi_plan.specs.declared.record.PlanRecord.{PlanRecord}
 use Rattle.edi_plan.specs.declared.record.PlanAttribute.{PlanAttribute}
 use Rattle.edi_plan.specs.declared.record.PlanEnd.{PlanEnd}
@@ -26,11 +26,11 @@ abbrev pub written_attribute : Classes → PlanAttribute → Attribute
 written_attribute s a = record { atp = class_name_of s a.atp; tex = a.tex; atv = value_text a.value }
 
 -- an end as it is written: the name of the record that it ends at, and its SNS
-abbrev pub written_end : Classes → Drawing → PlanEnd → End
+abbrev pub written_end : Classes → PlanData → PlanEnd → End
 written_end s p e = record { lot = codes "CANON"; subset = codes "S"; target = name_in s p e.target; sns = e.sns }
 
 -- a record of the plan as it is written, with this number
-abbrev pub written_record : Classes → Drawing → ℕ → PlanRecord → Record
+abbrev pub written_record : Classes → PlanData → ℕ → PlanRecord → Record
 written_record s p number r = record {
   kind = r.kind;
   rid = identifier r.kind number;
@@ -42,16 +42,16 @@ written_record s p number r = record {
 }
 
 -- the records as they are written, from a place on
-abbrev pub written_from : Classes → Drawing → ℕ → List PlanRecord → List Record
+abbrev pub written_from : Classes → PlanData → ℕ → List PlanRecord → List Record
 written_from s p place [] = []
 written_from s p place (r ∷ rs) = written_record s p (number_in s p place) r ∷ written_from s p (place + 1) rs
 
 -- the records that are written of a plan
-abbrev pub written_records : Classes → Drawing → List Record
+abbrev pub written_records : Classes → PlanData → List Record
 written_records s p = written_from s p 0 p.list
 
 -- each attribute's class is of type ATT
-abbrev pub HasAttributeClasses : Classes → Drawing → Type 0
+abbrev pub HasAttributeClasses : Classes → PlanData → Type 0
 HasAttributeClasses s p =
     AllByRecursion (λ r. AllByRecursion (λ a. (class_name_of s a.atp).rty ≡ codes "ATT") r.attributes) p.list
 

@@ -1,7 +1,7 @@
 -- What is said of a sheet.
 use Rattle.std.specs.Prelude.{◌≡◌, ◌⊎◌, ℕ, List, Option, None}
 use Rattle.edi_schema.specs.Classes.{Classes}
-use Rattle.edi_plan.specs.Plans.{Drawing}
+use Rattle.edi_plan.specs.Plans.{PlanData}
 use Rattle.edi_compare.specs.PlanOfFile.{IsPlanOfFile}
 use Rattle.edi_compare.specs.Refused.{IsRefusal}
 use Rattle.edi_compare.specs.Rules.{IsAccepted}
@@ -17,7 +17,7 @@ abbrev pub LacksRoom : Option Content → Answer → Type 0
 LacksRoom held answer = (held ≡ None) × (answer ≡ no_memory)
 
 -- the text on a plan
-abbrev pub IsDescribed : Drawing → Option Content → Answer → Type 0
+abbrev pub IsDescribed : PlanData → Option Content → Answer → Type 0
 IsDescribed p held answer =
     ((text : List ℕ) × DescribesPlan p text × IsGiven done text held answer)
     ⊎ LacksRoom held answer
@@ -32,5 +32,5 @@ IsExplained s sheet name f held answer =
 -- the text that explains it.
 abbrev pub IsExplanation : Classes → List ℕ → List ℕ → Option Content → Answer → Type 0
 IsExplanation s sheet name held answer =
-    ((p : Drawing) × IsAccepted s sheet × IsPlanOfFile s sheet p × IsDescribed p held answer)
+    ((p : PlanData) × IsAccepted s sheet × IsPlanOfFile s sheet p × IsDescribed p held answer)
     ⊎ ((f : Fault) × IsRefusal s sheet f × IsExplained s sheet name f held answer)

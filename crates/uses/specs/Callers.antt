@@ -3,7 +3,7 @@ use Rattle.std.specs.Prelude.{ℕ, ◌≤◌, List, length, take, Option, codes}
 use Rattle.std.specs.Io.KnownBytes.{Appends}
 use Rattle.edi_schema.specs.Classes.{Classes}
 use Rattle.edi_schema.specs.Roles.{KindCodes}
-use Rattle.edi_plan.specs.Plans.{Drawing}
+use Rattle.edi_plan.specs.Plans.{PlanData}
 use Rattle.edi_write.specs.declared.writing.Written.{Written}
 use Rattle.edi_compare.specs.Headline.{IsFormOf}
 use Rattle.edi_compare.specs.PlanOfFile.{IsPlanOfFile}
@@ -29,7 +29,7 @@ GetsFirst s sheet count old new =
 
 -- the pairing carries the plan of the one sheet onto that of the other
 abbrev pub SomePairing : Classes → List ℕ → List ℕ → Pairing → Type 0
-SomePairing s a b pairing = (p q : Drawing) × IsPlanOfFile s a p × IsPlanOfFile s b q × PairingCarries s p q pairing
+SomePairing s a b pairing = (p q : PlanData) × IsPlanOfFile s a p × IsPlanOfFile s b q × PairingCarries s p q pairing
 
 -- the four kinds by the identifiers of their classes
 abbrev pub own_kinds : KindCodes

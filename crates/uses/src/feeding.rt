@@ -1,7 +1,7 @@
 //! A file that comes from a stream, cut into zones as it comes.
 
 ghost use Rattle.std.specs.Prelude.{◌≡◌, IfOk, IfErr, IfSome};
-ghost use Rattle.edi_line.specs.Entry.{entries};
+ghost use Rattle.edi_line.specs.ZoneData.{entries};
 ghost use Rattle.edi_line.specs.LineRules.{IsZonesOf};
 ghost use Rattle.uses.specs.Streams.{IsStreamFault};
 ghost use Rattle.uses.specs.declared.feeding.StreamFault.TheVariants.{Line};

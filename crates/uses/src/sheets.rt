@@ -2,7 +2,7 @@
 
 ghost use Rattle.std.specs.Prelude.{◌≡◌, ◌↔◌, ℕ, List, length, IfOk, IfErr, IfSome, IsTrue, MatchOption, ⊤};
 ghost use Rattle.edi_schema.specs.SchemaRefusal.{IsGoodSchema, IsSchemaRefusal};
-ghost use Rattle.edi_plan.specs.Plans.{Drawing};
+ghost use Rattle.edi_plan.specs.Plans.{PlanData};
 ghost use Rattle.edi_rank.specs.Same.{Same};
 ghost use Rattle.edi_compare.specs.HeldPlans.{IsHeldPlan};
 ghost use Rattle.edi_plan.specs.Agreeing.{HasClasses};
@@ -24,7 +24,7 @@ use std::alloc::{AllocError, Global};
 
 /// How many records the plan of a sheet has.
 pub fn count_records(alloc: Global, schema: &Schema, sheet: &[u8]) -> Result<u32, Fault>
-    ensures count { IfOk result (λ count. (p : Drawing) × IsPlanOfFile schema.now sheet.now p
+    ensures count { IfOk result (λ count. (p : PlanData) × IsPlanOfFile schema.now sheet.now p
         × (count ≡ length p.list)) }
     ensures refusal { IfErr result (IsRefusal schema.now sheet.now) }
 {

@@ -1,7 +1,7 @@
 -- What is checked of a pairing, record by record.
 use Rattle.std.specs.Prelude.{◌≡◌, ℕ, ◌<◌, Bool, true, false, List, length, slice_index, slice_index_or}
 use Rattle.edi_schema.specs.Classes.{Classes}
-use Rattle.edi_plan.specs.Plans.{Drawing, IsPlace, record_at}
+use Rattle.edi_plan.specs.Plans.{PlanData, IsPlace, record_at}
 use Rattle.edi_plan.specs.declared.record.PlanEnd.{PlanEnd}
 use Rattle.edi_rank.specs.Labelling.{turned_at}
 use Rattle.edi_plan.specs.Agreeing.{HasClasses}
@@ -16,8 +16,8 @@ use Rattle.edi_compare.specs.declared.uncarried.WrongPartner.{WrongPartner}
 -- two plans of one schema, the places that the records of the first go to, and which of them are turned
 pub record Matching : Type 0 where
   pub classes : Classes
-  pub plan : Drawing
-  pub other : Drawing
+  pub plan : PlanData
+  pub other : PlanData
   pub to : List ℕ
   pub turned : List Bool
 

@@ -1,12 +1,12 @@
 -- What is read of a lot's record, before it is known that the names are names.
 use Rattle.std.specs.Prelude.{◌≡◌, ℕ, List, [], ◌∷◌, ◌++◌, map, option_map, option_to_list, codes}
-use Rattle.edi_line.specs.Entry.{Entry}
+use Rattle.edi_line.specs.ZoneData.{ZoneData}
 use Rattle.edi_record.specs.Records.{values}
 use Rattle.edi_delivery.specs.declared.lot.Lot.{Lot}
 use Rattle.edi_delivery.specs.declared.draft.LotDraft.{LotDraft}
 
 -- the own names of the files that a record names
-pub record IsDraftOf (group : List Entry) (d : LotDraft) : Type 0 where
+pub record IsDraftOf (group : List ZoneData) (d : LotDraft) : Type 0 where
   pub scd : values (codes "SCN") group ≡ d.scd.now ∷ []
   pub dic : values (codes "DIN") group ≡ d.dic.now ∷ []
   pub general : values (codes "GNN") group ≡ option_to_list (option_map (λ t. t.now) d.general)

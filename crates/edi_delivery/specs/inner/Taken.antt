@@ -1,6 +1,6 @@
 -- What stands once some records have been read.
 use Rattle.std.specs.Prelude.{ℕ, ◌≤◌, List}
-use Rattle.edi_line.specs.Entry.{Entry}
+use Rattle.edi_line.specs.ZoneData.{ZoneData}
 use Rattle.edi_record.specs.declared.fault.RecordFault.{RecordFault}
 use Rattle.edi_record.specs.declared.fault.RecordFault.TheVariants.{Memory, Broken}
 use Rattle.edi_delivery.specs.Lots.{StatesLots}
@@ -10,12 +10,12 @@ use Rattle.edi_delivery.specs.declared.fault.LotFault.{LotFault}
 use Rattle.edi_delivery.specs.declared.fault.LotFault.TheVariants.{Memory as LotMemory, Broken as LotBroken}
 
 -- these records state these lots, and none of them breaks a rule
-pub record IsTaken (before : List (List Entry)) (lots : List Lot) : Type 0 where
+pub record IsTaken (before : List (List ZoneData)) (lots : List Lot) : Type 0 where
   pub states : StatesLots before lots
   pub sound : (rule place : ℕ) → ¬ (BreaksRuleAt before rule place)
 
 -- the record behind these breaks the rule, and none that is less
-pub record IsLeastHere (before : List (List Entry)) (group : List Entry) (rule : ℕ) : Type 0 where
+pub record IsLeastHere (before : List (List ZoneData)) (group : List ZoneData) (rule : ℕ) : Type 0 where
   pub breaks : BreaksBehind before group rule
   pub least : (r : ℕ) → BreaksBehind before group r → rule ≤ r
 

@@ -1,7 +1,7 @@
 -- Two plans that are compared record by record.
 use Rattle.std.specs.Prelude.{◌≡◌, ℕ, Bool, List, Option, length}
 use Rattle.edi_schema.specs.Classes.{Classes}
-use Rattle.edi_plan.specs.Plans.{Drawing, IsPlace}
+use Rattle.edi_plan.specs.Plans.{PlanData, IsPlace}
 use Rattle.edi_plan.specs.Agreeing.{HasClasses}
 use Rattle.edi_matching.specs.Matchings.{GoesTo, targets_of}
 use Rattle.edi_matching.specs.declared.matching.Matching.{Matching}
@@ -9,8 +9,8 @@ use Rattle.edi_matching.specs.declared.matching.Matching.{Matching}
 -- two plans, what is unchanged of the first and what became of it, with the targets of that
 pub record Comparison : Type 0 where
   pub classes : Classes
-  pub plan : Drawing
-  pub other : Drawing
+  pub plan : PlanData
+  pub other : PlanData
   pub unchanged : List (Option ℕ)
   pub to : List (Option ℕ)
   pub targets : List ℕ

@@ -12,7 +12,7 @@ use Rattle.edi_record.specs.declared.record.Kind.TheVariants.{Pno, Par, Pfe, Fea
 use Rattle.edi_record.specs.declared.record.Point.{Point}
 use Rattle.edi_schema.specs.Sorted.{sort_by}
 use Rattle.edi_plan.specs.Orders.{attribute_cmp}
-use Rattle.edi_plan.specs.Plans.{Drawing, record_at}
+use Rattle.edi_plan.specs.Plans.{PlanData, record_at}
 use Rattle.edi_plan.specs.contracts.record.PlanAttributeOrd.TheImpl.{ghosts as attributes}
 use Rattle.edi_plan.specs.declared.record.PlanAttribute.{PlanAttribute}
 use Rattle.edi_topo.specs.Directions.{forward}
@@ -39,17 +39,17 @@ is_link Fea = false
 is_link Lnk = true
 
 -- there is a record at the place
-abbrev pub is_there : Drawing → ℕ → Bool
+abbrev pub is_there : PlanData → ℕ → Bool
 is_there p place = nat_lt place (length p.list)
 
 -- a node or an arc by its type and its points, in their forward direction
-abbrev pub points_key : Drawing → ℕ → Option (Kind × List Point)
+abbrev pub points_key : PlanData → ℕ → Option (Kind × List Point)
 points_key p place =
     if is_there p place && has_points (record_at p place).kind
     then Some ((record_at p place).kind, forward (record_at p place).points) else None
 
 -- a record, but for a link, by its type, its class, its attributes and its extra zones
-abbrev pub contents_key : Drawing → ℕ → Option ((Kind × ℕ) × (List PlanAttribute × List Extra))
+abbrev pub contents_key : PlanData → ℕ → Option ((Kind × ℕ) × (List PlanAttribute × List Extra))
 contents_key p place =
     if is_there p place && not (is_link (record_at p place).kind)
     then Some (

@@ -3,7 +3,7 @@ use Rattle.std.specs.Prelude.{ℕ, ◌+◌, Bool, false, true, not, List, [], �
 use Rattle.edi_schema.specs.Roles.{exchanged, is_plain}
 use Rattle.edi_schema.specs.declared.role.Role.{Role}
 use Rattle.edi_schema.specs.declared.role.Role.TheVariants.{Initial, Final, Left, Right, Plain}
-use Rattle.edi_plan.specs.Plans.{Drawing, is_arc, record_at}
+use Rattle.edi_plan.specs.Plans.{PlanData, is_arc, record_at}
 use Rattle.edi_plan.specs.declared.record.PlanEnd.{PlanEnd}
 use Rattle.edi_diff.specs.declared.changes.Changes.{Changes}
 use Rattle.edi_diff.specs.declared.proposing.LinkClass.{LinkClass}
@@ -14,14 +14,14 @@ use Rattle.edi_diff.specs.inner.Codes.{code_at}
 -- two plans, and where the records of the first went so far, which of its arcs are reversed, and which records of the
 -- second were reached
 pub record Progress : Type 0 where
-  pub plan : Drawing
-  pub other : Drawing
+  pub plan : PlanData
+  pub other : PlanData
   pub to : List (Option ℕ)
   pub turned : List Bool
   pub reached : List Bool
 
 -- the same of two plans and of changes
-abbrev pub progress_by : Drawing → Drawing → Changes → Progress
+abbrev pub progress_by : PlanData → PlanData → Changes → Progress
 progress_by plan other changes =
     record {
       plan = plan;
@@ -36,7 +36,7 @@ abbrev pub progress_of : Open → Progress
 progress_of m = progress_by m.plan.now m.other.now m.changes.now
 
 -- the first plan, or the second
-abbrev pub plan_of : Progress → Bool → Drawing
+abbrev pub plan_of : Progress → Bool → PlanData
 plan_of m of_second = if of_second then m.other else m.plan
 
 -- the name of a record, if it is known: the place in the second sheet where it went, or its own if it is of that sheet
@@ -47,11 +47,11 @@ name_of m of_second place =
     then (if slice_index_or m.reached place false then Some place else None) else slice_index_or m.to place None
 
 -- the first arc among the ends of a link
-abbrev pub arc_of : Drawing → List PlanEnd → Option ℕ
+abbrev pub arc_of : PlanData → List PlanEnd → Option ℕ
 arc_of p ends = find (λ place. is_arc (record_at p place).kind) (map (λ end. end.target) ends)
 
 -- whether the arc of a link is reversed in the second sheet, if its name is known: an arc of that sheet is not
-abbrev pub reversal_of : Progress → Bool → Drawing → ℕ → Option Bool
+abbrev pub reversal_of : Progress → Bool → PlanData → ℕ → Option Bool
 reversal_of m of_second p place =
     option_and_then (λ arc. option_and_then (λ name. if of_second then Some false else slice_get m.turned arc)
     (name_of m of_second arc)) (arc_of p (record_at p place).ends)

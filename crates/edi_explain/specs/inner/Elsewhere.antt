@@ -1,7 +1,7 @@
 -- The ends of links, and a record that is sought, while records come.
 use Rattle.std.specs.Prelude.{◌≡◌, ◌↔◌, ℕ, List, [], ◌∷◌, Option, Some, None, All, Any, IsTrue}
 use Rattle.std.specs.Global.{Vec}
-use Rattle.edi_line.specs.Entry.{Entry, first}
+use Rattle.edi_line.specs.ZoneData.{ZoneData, first}
 use Rattle.edi_record.specs.Texts.{PointerText, shown}
 use Rattle.edi_explain.specs.AstrayZones.{AreApart, IsNamedBy}
 use Rattle.edi_explain.specs.Elsewhere.{AreStrayEnds, link_ends}
@@ -18,15 +18,15 @@ abbrev pub AreEnds : List (List ℕ) → LinkEnds → Type 0
 AreEnds ends s = EndsAre ends s.home s.stray
 
 -- the parts of a pointer, as a group of four zones
-abbrev pub sign_zone : List ℕ → Entry
+abbrev pub sign_zone : List ℕ → ZoneData
 sign_zone value = record { line = 0; code = []; nature = 0; format = 0; value = value }
 
-abbrev pub sign_of : PointerText → List Entry
+abbrev pub sign_of : PointerText → List ZoneData
 sign_of p = sign_zone p.lot ∷ sign_zone p.subset ∷ sign_zone p.rty ∷ sign_zone p.rid ∷ []
 
 -- A record is sought, and these groups have come. Handing on says of what takes groups no more than what holds after
 -- those that came; so the pointer stands in front of them, as a group of its own.
-abbrev pub IsSoughtName : SoughtName → List (List Entry) → Type 0
+abbrev pub IsSoughtName : SoughtName → List (List ZoneData) → Type 0
 IsSoughtName s [] = ⊥
 IsSoughtName s (sign ∷ come) = (sign ≡ sign_of (shown s.pointer)) × AreEnds (link_ends come) s.ends
     × (IsTrue s.is_there ↔ Any (IsNamedBy (shown s.pointer)) come)

@@ -1,6 +1,6 @@
 -- What is found of a refusal before it is explained: which rules may be broken, and the zones of its records.
 use Rattle.std.specs.Prelude.{◌≡◌, ◌<◌, ◌⊎◌, ⊤, ℕ, zero, suc, List, Option, Some, None, option_map, slice_get}
-use Rattle.edi_line.specs.Entry.{Entry, entries}
+use Rattle.edi_line.specs.ZoneData.{ZoneData, entries}
 use Rattle.edi_line.specs.Zones.{groups_of}
 use Rattle.edi_record.specs.declared.sheet.Sheet.{Sheet}
 use Rattle.edi_compare.specs.PlanOfFile.{IsSheetOf}
@@ -19,7 +19,7 @@ IsEarly b (Line rule at) = ⊤
 IsEarly b (AtRecord rule at) = IsEarlyRule b rule
 
 -- the zones of the record with this number, from 1, if it is one of these
-abbrev pub group_numbered : List (List Entry) → ℕ → Option (List Entry)
+abbrev pub group_numbered : List (List ZoneData) → ℕ → Option (List ZoneData)
 group_numbered groups zero = None
 group_numbered groups (suc place) = slice_get groups place
 
@@ -29,7 +29,7 @@ number_of (Some place) = suc place
 number_of None = 0
 
 -- the zones of the record with this number and of the one at an earlier place, of each that the file has
-pub record AreFound (zones : List Entry) (number : ℕ) (earlier : Option ℕ) (found : FoundRecords) : Type 0 where
+pub record AreFound (zones : List ZoneData) (number : ℕ) (earlier : Option ℕ) (found : FoundRecords) : Type 0 where
   pub here : option_map (λ g. entries g.now) found.here ≡ group_numbered (groups_of zones) number
   pub earlier_one : option_map (λ g. entries g.now) found.earlier
       ≡ group_numbered (groups_of zones) (number_of earlier)

@@ -1,7 +1,7 @@
 -- Single records of the file of classes, and their kinds.
 use Rattle.std.specs.Prelude.{◌≡◌, ◌≢◌, ◌-◌, ◌<◌, ℕ, true, List, Some, codes, slice_get}
 use Rattle.std.specs.List.{list_any}
-use Rattle.edi_line.specs.Entry.{Entry}
+use Rattle.edi_line.specs.ZoneData.{ZoneData}
 use Rattle.edi_record.specs.Records.{values, first}
 use Rattle.edi_record.specs.Texts.{is_semicolon}
 use Rattle.edi_record.specs.declared.name.Name.{Name}
@@ -14,20 +14,20 @@ use Rattle.edi_explain.specs.declared.kind_causes.KindsCase.{KindsCase}
 use Rattle.edi_explain.specs.declared.kind_causes.KindsCause.{KindsCause}
 
 -- the zones of a record state a class of a kind
-abbrev pub StatesClassOf : KindCodes → List Entry → Role → Type 0
+abbrev pub StatesClassOf : KindCodes → List ZoneData → Role → Type 0
 StatesClassOf kinds group role =
     (name : Name) × IsNamed group name × (role_by kinds (first (values (codes "KND") group)) name.rid ≡ role)
     × (role ≢ Plain)
 
 -- the type of the record with a number, from 1, holds a semicolon
-abbrev pub HoldsSemicolon : List (List Entry) → ℕ → Type 0
+abbrev pub HoldsSemicolon : List (List ZoneData) → ℕ → Type 0
 HoldsSemicolon groups n =
-    (group : List Entry) × (rty : List ℕ) × (slice_get groups (n - 1) ≡ Some group)
+    (group : List ZoneData) × (rty : List ℕ) × (slice_get groups (n - 1) ≡ Some group)
     × (first (values (codes "RTY") group) ≡ Some rty)
     × (list_any is_semicolon rty ≡ true)
 
 -- over the records of the file and the codes
-module _ (groups : List (List Entry)) (kinds : KindCodes) where
+module _ (groups : List (List ZoneData)) (kinds : KindCodes) where
   -- the kind breaks the rule in this case, and the cause says so
   pub record IsCauseOf (case : KindsCase) (role : Role) (cause : KindsCause) : Type 0 where
     pub case_is : cause.case ≡ case

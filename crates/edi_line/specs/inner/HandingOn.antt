@@ -1,7 +1,7 @@
 -- How zones are handed on, record by record, while the lines of a file come.
 use Rattle.std.specs.Prelude.{◌≡◌, ℕ, ◌⊎◌, Bool, true, false, List, [], ◌∷◌, ◌++◌, length, drop, Option}
 use Rattle.std.specs.List.{list_any}
-use Rattle.edi_line.specs.Entry.{Entry}
+use Rattle.edi_line.specs.ZoneData.{ZoneData}
 use Rattle.edi_line.specs.Feeding.{seen_in, Zoned}
 use Rattle.edi_line.specs.LineRules.{BreaksAt}
 use Rattle.edi_line.specs.Spelling.{Reading}
@@ -12,22 +12,22 @@ use Rattle.edi_line.specs.inner.Zones.{parts_after}
 use Rattle.edi_line.specs.declared.reading.Reader.{Reader}
 
 -- none but the first begins a record or is the end
-abbrev pub IsInner : List Entry → Type 0
+abbrev pub IsInner : List ZoneData → Type 0
 IsInner zones = list_any ends_group (drop 1 zones) ≡ false
 
-abbrev pub starts_ended : List Entry → Bool
+abbrev pub starts_ended : List ZoneData → Bool
 starts_ended [] = false
 starts_ended (z ∷ zs) = ends_group z
 
 -- nothing came before, or this stretch begins with an end
-abbrev pub IsNext : List Entry → List Entry → Type 0
+abbrev pub IsNext : List ZoneData → List ZoneData → Type 0
 IsNext given stretch = (given ≡ []) ⊎ (starts_ended stretch ≡ true)
 
-abbrev pub behind : List Entry → Zoned → Zoned
+abbrev pub behind : List ZoneData → Zoned → Zoned
 behind given z = record { done = given ++ z.done; open_zone = z.open_zone }
 
 -- the lines in front of those that are left have come; of their zones these were given, and the reader holds the others
-pub record IsAtLines (lines left : List Reading) (given : List Entry) (r : Reader)
+pub record IsAtLines (lines left : List Reading) (given : List ZoneData) (r : Reader)
     (charset : Option (List ℕ)) : Type 0 where
   pub done : List Reading
   pub cut : lines ≡ done ++ left
@@ -40,8 +40,8 @@ pub record IsAtLines (lines left : List Reading) (given : List Entry) (r : Reade
   pub charset_is : charset ≡ charset_in (before_end given)
 
 -- more lines have come, and the records that are done were handed on
-pub record WentOn (lines left : List Reading) (given : List Entry) (r : Reader) (charset : Option (List ℕ))
-    (Before After : List (List Entry) → Type 0) : Type 0 where
-  pub given_now : List Entry
+pub record WentOn (lines left : List Reading) (given : List ZoneData) (r : Reader) (charset : Option (List ℕ))
+    (Before After : List (List ZoneData) → Type 0) : Type 0 where
+  pub given_now : List ZoneData
   pub at : IsAtLines lines left given_now r charset
-  pub handed : (groups : List (List Entry)) → Before (groups ++ groups_of given) → After (groups ++ groups_of given_now)
+  pub handed : (groups : List (List ZoneData)) → Before (groups ++ groups_of given) → After (groups ++ groups_of given_now)

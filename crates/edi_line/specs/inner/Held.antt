@@ -1,7 +1,7 @@
 -- What a reader holds that has gone through some lines.
 use Rattle.std.specs.Prelude.{◌≡◌, ℕ, ◌+◌, ◌==◌, ◌&&◌, ◌||◌, not, List, [], ◌∷◌, ◌++◌, length, Option, Some, None, option_map, option_to_list, Ok, Err, if◌then◌else◌}
 use Rattle.edi_line.specs.Bytes.{most_records}
-use Rattle.edi_line.specs.Entry.{Entry}
+use Rattle.edi_line.specs.ZoneData.{ZoneData}
 use Rattle.edi_line.specs.Spelling.{Spelling, Reading}
 use Rattle.edi_line.specs.inner.Zones.{Part, part_of, parts_after, with_more, entry_of}
 use Rattle.edi_line.specs.LineKinds.{kind_of, is_bom, is_cse, is_rty, is_eom, is_other, is_next, is_zone, starts}
@@ -57,7 +57,7 @@ noted seen (Err rule) = seen
 abbrev pub no_zones : Zoned
 no_zones = record { done = []; open_zone = None }
 
-abbrev pub closed : Zoned → List Entry
+abbrev pub closed : Zoned → List ZoneData
 closed z = z.done ++ option_to_list z.open_zone
 
 abbrev pub step : Part → Zoned → Zoned

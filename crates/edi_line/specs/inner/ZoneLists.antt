@@ -1,6 +1,6 @@
 -- The zones that have begun, of which the last may be open.
 use Rattle.std.specs.Prelude.{Bool, true, false, List, [], ◌∷◌, Option, Some, None, option_map}
-use Rattle.edi_line.specs.Entry.{entry, entries}
+use Rattle.edi_line.specs.ZoneData.{entry, entries}
 use Rattle.edi_line.specs.Feeding.{Zoned}
 use Rattle.edi_line.specs.declared.zone.Zone.{Zone}
 use Rattle.edi_line.specs.declared.zone_list.ZoneList.{ZoneList}

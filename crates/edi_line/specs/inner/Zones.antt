@@ -1,6 +1,6 @@
 -- The zones of a file, line by line: what reading finds.
 use Rattle.std.specs.Prelude.{ℕ, suc, List, [], ◌∷◌, ◌++◌, Some, None, Ok, Err, map}
-use Rattle.edi_line.specs.Entry.{Entry}
+use Rattle.edi_line.specs.ZoneData.{ZoneData}
 use Rattle.edi_line.specs.LineKinds.{kind_of}
 use Rattle.edi_line.specs.Spelling.{Spelling, Reading}
 use Rattle.edi_line.specs.inner.Lines.{contents_of}
@@ -17,9 +17,9 @@ pub data Part : Type 0 where
   Blank : Part
   Continues : List ℕ → Part
   IsRemark : Part
-  Begins : Entry → Part
+  Begins : ZoneData → Part
 
-abbrev pub entry_of : ℕ → Spelling → Entry
+abbrev pub entry_of : ℕ → Spelling → ZoneData
 entry_of line s = record { line = line; code = s.code; nature = s.nature; format = s.format; value = s.value }
 
 abbrev pub part_by : ZoneKind → ℕ → Spelling → Part
@@ -42,7 +42,7 @@ abbrev pub parts_after : ℕ → List Reading → List Part
 parts_after before [] = []
 parts_after before (line ∷ lines) = part_of (suc before) line ∷ parts_after (suc before) lines
 
-abbrev pub with_more : List ℕ → Entry → Entry
+abbrev pub with_more : List ℕ → ZoneData → ZoneData
 with_more more zone =
     record {
       line = zone.line;

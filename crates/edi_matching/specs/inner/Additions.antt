@@ -4,7 +4,7 @@ use Rattle.std.specs.declared.cmp.Ordering.{Ordering}
 use Rattle.std.specs.List.Sorted.{IsPermutation, IsSortedBy}
 use Rattle.std.specs.Ordering.{is_lt}
 use Rattle.edi_schema.specs.declared.role.Role.{Role}
-use Rattle.edi_plan.specs.Plans.{Drawing, IsPlace, record_at}
+use Rattle.edi_plan.specs.Plans.{PlanData, IsPlace, record_at}
 use Rattle.edi_matching.specs.Differences.{AreBeside, HoldsSame}
 use Rattle.edi_matching.specs.Matchings.{GoesTo}
 use Rattle.edi_matching.specs.declared.matching.Matching.{Matching}
@@ -49,14 +49,14 @@ pub record AreLone {K X : Type 0} (eq : K → K → Bool) (entries : List (K × 
 -- pairs of records
 
 -- the record at the place j of q holds what that at the place i of p does
-pub record AreAlike (p q : Drawing) (i j : ℕ) : Type 0 where
+pub record AreAlike (p q : PlanData) (i j : ℕ) : Type 0 where
   pub here : IsPlace p i
   pub there : IsPlace q j
   pub turned : Bool
   pub same : HoldsSame (record_at p i) (record_at q j) turned
 
 -- two that hold the same, and that a matched arc and the one it goes to have on the same side
-pub record AreAlikeBeside (p q : Drawing) (m : Matching) (i j : ℕ) : Type 0 where
+pub record AreAlikeBeside (p q : PlanData) (m : Matching) (i j : ℕ) : Type 0 where
   pub arc : ℕ
   pub role : Role
   pub beside : AreBeside p q m role arc i j
@@ -110,13 +110,13 @@ PairsIfFree i j to taken more marks =
     IsPaired i j to taken more marks ⊎ (¬ (AreFree to taken i j) × IsKept to taken more marks)
 
 -- the two are paired, if they were free and hold the same
-abbrev pub PairsIfAlike : Drawing → Drawing → ℕ → ℕ → List (Option ℕ) → List Bool → List (Option ℕ) → List Bool → Type 0
+abbrev pub PairsIfAlike : PlanData → PlanData → ℕ → ℕ → List (Option ℕ) → List Bool → List (Option ℕ) → List Bool → Type 0
 PairsIfAlike p q i j to taken more marks =
     (AreAlike p q i j × IsPaired i j to taken more marks)
     ⊎ (¬ (AreAlike p q i j × AreFree to taken i j) × IsKept to taken more marks)
 
 -- the same, if there are both
-abbrev pub PairsIfBoth : Drawing → Drawing → Option ℕ → Option ℕ → List (Option ℕ) → List Bool → List (Option ℕ)
+abbrev pub PairsIfBoth : PlanData → PlanData → Option ℕ → Option ℕ → List (Option ℕ) → List Bool → List (Option ℕ)
     → List Bool → Type 0
 PairsIfBoth p q None target to taken more marks = IsKept to taken more marks
 PairsIfBoth p q (Some i) None to taken more marks = IsKept to taken more marks
@@ -142,7 +142,7 @@ pub record AddsPairs (Pair : ℕ → ℕ → Type 0) (to : List (Option ℕ)) (t
       → slice_index_or taken j true ≡ true ⊎ ((i : ℕ) × GoesTo more i j)
 
 -- in lists in the order of their keys: no two that hold the same and whose key each list has once are left
-abbrev pub LeavesNoLone : {K : Type 0} → (K → K → Ordering) → (K → K → Bool) → Drawing → Drawing → List (K × Member)
+abbrev pub LeavesNoLone : {K : Type 0} → (K → K → Ordering) → (K → K → Bool) → PlanData → PlanData → List (K × Member)
     → List (K × Member) → List (Option ℕ) → List Bool → Type 0
 LeavesNoLone cmp eq p q entries others to taken =
     AreInOrder cmp entries → AreInOrder cmp others → (i j : ℕ)
@@ -150,7 +150,7 @@ LeavesNoLone cmp eq p q entries others to taken =
 
 -- Of records by these entries, in some order, pairs were added that have one key and hold the same, and no such pair is
 -- left whose key each list has once.
-pub record PairsByKey {K : Type 0} (eq : K → K → Bool) (p q : Drawing) (entries others : List (K × Member))
+pub record PairsByKey {K : Type 0} (eq : K → K → Bool) (p q : PlanData) (entries others : List (K × Member))
     (to : List (Option ℕ)) (taken : List Bool) (more : List (Option ℕ)) (marks : List Bool) : Type 0 where
   pub here : List (K × Member)
   pub there : List (K × Member)

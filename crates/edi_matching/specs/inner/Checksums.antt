@@ -12,7 +12,7 @@ use Rattle.edi_record.specs.declared.record.Value.{Value}
 use Rattle.edi_record.specs.declared.record.Value.TheVariants.{Number, Bytes}
 use Rattle.edi_schema.specs.Roles.{is_plain}
 use Rattle.edi_schema.specs.contracts.class.ClassRefHash.TheImpl.{ghosts as classes}
-use Rattle.edi_plan.specs.Plans.{Drawing}
+use Rattle.edi_plan.specs.Plans.{PlanData}
 use Rattle.edi_plan.specs.declared.record.PlanAttribute.{PlanAttribute}
 use Rattle.edi_plan.specs.declared.record.PlanRecord.{PlanRecord}
 use Rattle.edi_matching.specs.contracts.checksum.SummaryHash.TheImpl.{ghosts as summaries}
@@ -58,10 +58,10 @@ summary_of r = record {
 abbrev pub record_checksum : PlanRecord → ℕ
 record_checksum r = hash_of (summaries.hash_input (summary_of r))
 
-abbrev pub plan_checksum : Drawing → ℕ
+abbrev pub plan_checksum : PlanData → ℕ
 plan_checksum p = sum_of record_checksum p.list
 
 -- two plans have one character set and one checksum
-pub record HaveOneChecksum (p q : Drawing) : Type 0 where
+pub record HaveOneChecksum (p q : PlanData) : Type 0 where
   pub cse : q.cse ≡ p.cse
   pub checksum : plan_checksum q ≡ plan_checksum p

@@ -3,7 +3,7 @@ use Rattle.std.specs.Prelude.{◌≡◌, ◌≢◌, ◌⊎◌, ℕ, ◌+◌, Boo
 use Rattle.std.specs.declared.cmp.Ordering.{Ordering}
 use Rattle.edi_record.specs.declared.record.Kind.{Kind}
 use Rattle.edi_plan.specs.Places.{places_of}
-use Rattle.edi_plan.specs.Plans.{Drawing, IsPlace, record_at}
+use Rattle.edi_plan.specs.Plans.{PlanData, IsPlace, record_at}
 use Rattle.edi_plan.specs.declared.record.PlanRecord.{PlanRecord}
 use Rattle.edi_matching.specs.declared.contents.Contents.{Contents}
 use Rattle.edi_matching.specs.declared.entries.ContentKey.{ContentKey}
@@ -18,7 +18,7 @@ pub record IsNumberIn {K X : Type 0} (cmp : K → K → Ordering) (eq : K → K 
   pub is : (HasKey eq order at key × (number ≡ at + 1)) ⊎ (¬ (HasKey eq order at key) × (number ≡ 0))
 
 -- a place with what its record holds, if it is one of the plan
-abbrev pub held_at : Drawing → ℕ → Option (ContentKey × ℕ)
+abbrev pub held_at : PlanData → ℕ → Option (ContentKey × ℕ)
 held_at p k = if nat_lt k (length p.list) then Some (contents_of (record_at p k), k) else None
 
 -- over the order and the equality of what records hold
@@ -29,12 +29,12 @@ module _ (cmp : ContentKey → ContentKey → Ordering) (eq : ContentKey → Con
       ((r.kind ≡ kind) × IsNumberIn cmp eq order (contents_of r) number) ⊎ ((r.kind ≢ kind) × (number ≡ 0))
 
   -- a number for each record of a plan
-  pub record AreNumbersOf (kind : Kind) (order : List (ContentKey × ℕ)) (p : Drawing) (numbers : List ℕ) : Type 0 where
+  pub record AreNumbersOf (kind : Kind) (order : List (ContentKey × ℕ)) (p : PlanData) (numbers : List ℕ) : Type 0 where
     pub all : length numbers ≡ length p.list
     pub each : (k : ℕ) → IsPlace p k → IsContentNumber kind order (record_at p k) (slice_index_or numbers k 0)
 
   -- the numbers of what the records of a type hold in two plans, by what those of the first hold, in order
-  pub record AreContents (kind : Kind) (p q : Drawing) (contents : Contents) : Type 0 where
+  pub record AreContents (kind : Kind) (p q : PlanData) (contents : Contents) : Type 0 where
     pub order : List (ContentKey × ℕ)
     pub ordered : AreInOrder cmp order
     pub listed : IsPermutation (filter_map (held_at p) (places_of kind p)) order

@@ -5,7 +5,7 @@ use Rattle.edi_schema.specs.Classes.{Classes, partner_of}
 use Rattle.edi_schema.specs.Sorted.{sort_by}
 use Rattle.edi_plan.specs.Orders.{attribute_cmp}
 use Rattle.edi_plan.specs.Places.{places_of}
-use Rattle.edi_plan.specs.Plans.{Drawing, is_object, record_at}
+use Rattle.edi_plan.specs.Plans.{PlanData, is_object, record_at}
 use Rattle.edi_plan.specs.declared.record.PlanEnd.{PlanEnd}
 use Rattle.edi_plan.specs.declared.record.PlanRecord.{PlanRecord}
 use Rattle.edi_rank.specs.Keys.{end_cmp, numbered}
@@ -20,22 +20,22 @@ use Rattle.edi_matching.specs.inner.PlainLinks.{plain_ends}
 use Rattle.edi_matching.specs.inner.Ranked.{member_at}
 
 -- the first of these ends that is an object
-abbrev pub object_among : Drawing → List PlanEnd → Option ℕ
+abbrev pub object_among : PlanData → List PlanEnd → Option ℕ
 object_among p ends = option_map (λ e. e.target) (find (λ e. is_object (record_at p e.target).kind) ends)
 
 -- an end, with the place where it goes, if it goes anywhere
-abbrev pub end_there : Drawing → List (Option ℕ) → PlanEnd → Option NumberedEnd
+abbrev pub end_there : PlanData → List (Option ℕ) → PlanEnd → Option NumberedEnd
 end_there p to e =
     option_and_then (λ j. if nat_lt e.target (length p.list) then Some (numbered p (λ k. j) e) else None)
     (slice_index_or to e.target None)
 
 -- these ends with the places where they go, if each goes somewhere
-abbrev pub all_there : Drawing → List (Option ℕ) → List PlanEnd → Option (List NumberedEnd)
+abbrev pub all_there : PlanData → List (Option ℕ) → List PlanEnd → Option (List NumberedEnd)
 all_there p to [] = Some []
 all_there p to (e ∷ es) = option_and_then (λ x. option_map (λ xs. x ∷ xs) (all_there p to es)) (end_there p to e)
 
 -- the same of the ends of a link: the others in order, and the origin last
-abbrev pub ends_there : Drawing → List (Option ℕ) → List PlanEnd → Option (List NumberedEnd)
+abbrev pub ends_there : PlanData → List (Option ℕ) → List PlanEnd → Option (List NumberedEnd)
 ends_there p to [] = None
 ends_there p to (origin ∷ others) =
     option_and_then (λ x. option_map (λ xs. sort_by end_cmp xs ++ x ∷ []) (all_there p to others))
@@ -48,7 +48,7 @@ link_key_with class ends r =
 
 -- what a link holds after the reversals, with the places where its ends go, if it isn't plain and each of them goes
 -- somewhere
-abbrev pub link_there : Classes → Drawing → List (Option ℕ) → List Bool → PlanRecord → Option LinkKey
+abbrev pub link_there : Classes → PlanData → List (Option ℕ) → List Bool → PlanRecord → Option LinkKey
 link_there s p to turned r =
     if is_some (plain_ends r) then None
     else option_map (λ ends. link_key_with (class_after (partner_of s) (turned_at turned) r) ends r)
@@ -63,16 +63,16 @@ abbrev pub contents_of : PlanRecord → ContentKey
 contents_of r = record { class = r.class; attributes = sort_by attribute_cmp r.attributes; extras = r.extras }
 
 -- a record, by what it holds, if it is one of the plan
-abbrev pub content_at : Drawing → Member → Option (ContentKey × Member)
+abbrev pub content_at : PlanData → Member → Option (ContentKey × Member)
 content_at p m = if nat_lt m.place (length p.list) then Some (contents_of (record_at p m.place), m) else None
 
 -- the record at a place, by what it holds, if it isn't done
-abbrev pub content_entry : Drawing → Labelling → List Bool → ℕ → Option (ContentKey × Member)
+abbrev pub content_entry : PlanData → Labelling → List Bool → ℕ → Option (ContentKey × Member)
 content_entry p l done k = if slice_index_or done k false then None else content_at p (member_at l k)
 
 -- an object, by the class of a link, the number that an end of that link has where it goes, if it goes anywhere, and
 -- the number of what the object holds
-abbrev pub neighbour_entry : Drawing → Labelling → List (Option ℕ) → ℕ → ℕ → Member → PlanEnd
+abbrev pub neighbour_entry : PlanData → Labelling → List (Option ℕ) → ℕ → ℕ → Member → PlanEnd
     → Option (NeighbourKey × Member)
 neighbour_entry p there to class contents member e =
     option_map (λ x.
@@ -81,7 +81,7 @@ neighbour_entry p there to class contents member e =
 
 -- The entries of an object of a link, if there is one that isn't done: one for each end of the link that goes
 -- somewhere. The contents have the number of what each object holds.
-abbrev pub entries_of : Drawing → Labelling → Labelling → List ℕ → List (Option ℕ) → List Bool → PlanRecord → Option ℕ
+abbrev pub entries_of : PlanData → Labelling → Labelling → List ℕ → List (Option ℕ) → List Bool → PlanRecord → Option ℕ
     → List (NeighbourKey × Member)
 entries_of p here there contents to done r None = []
 entries_of p here there contents to done r (Some object) =
@@ -89,17 +89,17 @@ entries_of p here there contents to done r (Some object) =
     else filter_map
     (neighbour_entry p there to r.class (slice_index_or contents object 0) (member_at here object)) r.ends
 
-abbrev pub link_entries : Drawing → Labelling → Labelling → List ℕ → List (Option ℕ) → List Bool → ℕ
+abbrev pub link_entries : PlanData → Labelling → Labelling → List ℕ → List (Option ℕ) → List Bool → ℕ
     → List (NeighbourKey × Member)
 link_entries p here there contents to done k =
     entries_of p here there contents to done (record_at p k) (object_among p (record_at p k).ends)
 
 -- those of all links of a plan
-abbrev pub neighbour_entries : Drawing → Labelling → Labelling → List ℕ → List (Option ℕ) → List Bool
+abbrev pub neighbour_entries : PlanData → Labelling → Labelling → List ℕ → List (Option ℕ) → List Bool
     → List (NeighbourKey × Member)
 neighbour_entries p here there contents to done =
     flat_map (link_entries p here there contents to done) (places_of Lnk p)
 
 -- the objects of a plan that aren't done, by what they hold
-abbrev pub content_entries : Drawing → Labelling → List Bool → List (ContentKey × Member)
+abbrev pub content_entries : PlanData → Labelling → List Bool → List (ContentKey × Member)
 content_entries p l done = filter_map (content_entry p l done) (places_of Fea p)

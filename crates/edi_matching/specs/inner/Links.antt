@@ -6,7 +6,7 @@ use Rattle.edi_record.specs.declared.record.Kind.TheVariants.{Lnk}
 use Rattle.edi_schema.specs.Classes.{partner_of}
 use Rattle.edi_schema.specs.Sorted.{sort_by}
 use Rattle.edi_plan.specs.Orders.{attribute_cmp}
-use Rattle.edi_plan.specs.Plans.{Drawing, IsPlace, record_at}
+use Rattle.edi_plan.specs.Plans.{PlanData, IsPlace, record_at}
 use Rattle.edi_plan.specs.declared.record.PlanRecord.{PlanRecord}
 use Rattle.edi_rank.specs.Keys.{ends_key, link_key}
 use Rattle.edi_rank.specs.Labelling.{turned_at}
@@ -35,12 +35,12 @@ abbrev pub IsMoreReached : List Bool → List Bool → Type 0
 IsMoreReached old new = (j : ℕ) → slice_index_or new j true ≡ false → slice_index_or old j true ≡ false
 
 -- each link of the plan that isn't marked is listed with its key
-abbrev pub ListsFree : Drawing → List Bool → List (LinkKey × ℕ) → Type 0
+abbrev pub ListsFree : PlanData → List Bool → List (LinkKey × ℕ) → Type 0
 ListsFree q marks pairs = (j : ℕ) → IsPlace q j → (record_at q j).kind ≡ Lnk → slice_index_or marks j true ≡ false
     → Contains pairs (link_key q (λ k. k) (record_at q j), j)
 
 -- the key that a link has where its ends go, with this class
-abbrev pub moved_key : Drawing → (ℕ → ℕ) → ℕ → PlanRecord → LinkKey
+abbrev pub moved_key : PlanData → (ℕ → ℕ) → ℕ → PlanRecord → LinkKey
 moved_key p to class r = record {
   class = class;
   ends = ends_key p to r.ends;
@@ -76,7 +76,7 @@ abbrev pub matching_so : Proposal → List (Option ℕ) → Matching
 matching_so m to = record { to = to; turned = m.turned }
 
 -- some more records of a type go somewhere, and the same arcs are reversed
-pub record AddsOnly (kind : Kind) (p : Drawing) (before after : Matching) : Type 0 where
+pub record AddsOnly (kind : Kind) (p : PlanData) (before after : Matching) : Type 0 where
   pub long : length after.to ≡ length before.to
   pub turned : after.turned ≡ before.turned
   pub keeps : (k j : ℕ) → GoesTo before.to k j → GoesTo after.to k j

@@ -7,7 +7,7 @@ use Rattle.edi_record.specs.declared.record.Kind.TheVariants.{Par, Pno}
 use Rattle.edi_record.specs.declared.record.Point.{Point}
 use Rattle.edi_line.specs.Refusal.{IsUnbroken}
 use Rattle.edi_plan.specs.Places.{places_of}
-use Rattle.edi_plan.specs.Plans.{Drawing, IsPlace}
+use Rattle.edi_plan.specs.Plans.{PlanData, IsPlace}
 use Rattle.edi_plan.specs.declared.record.PlanRecord.{PlanRecord}
 use Rattle.edi_rank.specs.Same.{directed}
 use Rattle.edi_topo.specs.Arcs.{forward_keys}
@@ -19,8 +19,8 @@ use Rattle.edi_matching.specs.Differences.{HoldsSame, ArePartners}
 
 -- two plans that break no rule of topology
 pub record TwoPlans : Type 0 where
-  pub plan : Drawing
-  pub other : Drawing
+  pub plan : PlanData
+  pub other : PlanData
 
 abbrev pub AreSound : TwoPlans → Type 0
 AreSound two = IsUnbroken (BreaksTopologyRule two.plan) × IsUnbroken (BreaksTopologyRule two.other)
@@ -63,8 +63,8 @@ IsMemberIfAny cmp pairs key found =
     MatchOption found (All (λ pair. cmp pair.0 key ≢ Equal) pairs) (IsMemberWith cmp pairs key)
 
 -- the nodes of a plan, each with its key, and the arcs by their points in their forward direction; in file order
-abbrev pub keyed_nodes : Drawing → List (NodeKey × ℕ)
+abbrev pub keyed_nodes : PlanData → List (NodeKey × ℕ)
 keyed_nodes p = keyed (λ m. slice_index_or (node_keys p) m no_node) (length (places_of Pno p))
 
-abbrev pub keyed_arcs : Drawing → List (List Point × ℕ)
+abbrev pub keyed_arcs : PlanData → List (List Point × ℕ)
 keyed_arcs p = keyed (λ m. slice_index_or (forward_keys p) m []) (length (places_of Par p))

@@ -3,7 +3,7 @@ use Rattle.std.specs.Prelude.{◌≡◌, ℕ, Bool, true, List, Option, length, 
 use Rattle.std.specs.List.{AllByRecursion}
 use Rattle.edi_record.specs.declared.record.Kind.TheVariants.{Par}
 use Rattle.edi_schema.specs.Classes.{Classes, partner_of}
-use Rattle.edi_plan.specs.Plans.{Drawing, IsPlace, record_at}
+use Rattle.edi_plan.specs.Plans.{PlanData, IsPlace, record_at}
 use Rattle.edi_rank.specs.Labelling.{turned_at}
 use Rattle.edi_rank.specs.Same.{class_after, directed, CarriesRecord}
 use Rattle.edi_plan.specs.Agreeing.{HasClasses}
@@ -13,8 +13,8 @@ use Rattle.edi_matching.specs.Matchings.{GoesTo, IsMatched}
 -- which are turned
 pub record Proposal : Type 0 where
   pub classes : Classes
-  pub plan : Drawing
-  pub other : Drawing
+  pub plan : PlanData
+  pub other : PlanData
   pub to : List (Option ℕ)
   pub targets : List ℕ
   pub turned : List Bool

@@ -8,7 +8,7 @@ use Rattle.edi_record.specs.contracts.record.KindHash.TheImpl.{ghosts as kinds}
 use Rattle.edi_schema.specs.Roles.{exchanged}
 use Rattle.edi_schema.specs.declared.role.Role.{Role}
 use Rattle.edi_schema.specs.declared.role.Role.TheVariants.{Initial, Final, Left, Right, Plain}
-use Rattle.edi_plan.specs.Plans.{Drawing, record_at}
+use Rattle.edi_plan.specs.Plans.{PlanData, record_at}
 use Rattle.edi_plan.specs.declared.record.PlanEnd.{PlanEnd}
 use Rattle.edi_plan.specs.declared.record.PlanRecord.{PlanRecord}
 use Rattle.edi_rank.specs.Labelling.{Labelling, number_of, order_of, turned_at}
@@ -38,7 +38,7 @@ role_number Right = 4
 role_number Plain = 0
 
 -- what is hashed of the type of the record at a place, if there is one
-abbrev pub type_input : Drawing → ℕ → HashWrites
+abbrev pub type_input : PlanData → ℕ → HashWrites
 type_input p place = if nat_lt place (length p.list) then kinds.hash_input (record_at p place).kind else []
 
 -- what is hashed of a text, if there is one
@@ -47,30 +47,30 @@ text_input None = []
 text_input (Some text) = text ∷ []
 
 -- the hash of an end: of the number and the type of what it names, and of its SNS
-abbrev pub end_checksum : Drawing → Labelling → PlanEnd → ℕ
+abbrev pub end_checksum : PlanData → Labelling → PlanEnd → ℕ
 end_checksum p l e =
     folding.finish (fold folding.write (fold folding.write (fold folding.write folding.initial
     (fed.u32 (number_of l e.target))) (type_input p e.target)) (text_input e.sns))
 
 -- what is hashed of the ends of a record: the origin, and the others in any order
-abbrev pub ends_input : Drawing → Labelling → List PlanEnd → HashWrites
+abbrev pub ends_input : PlanData → Labelling → List PlanEnd → HashWrites
 ends_input p l [] = []
 ends_input p l (origin ∷ others) = fed.u64 (end_checksum p l origin) ++ fed.u64 (sum_of (end_checksum p l) others)
 
 -- what is hashed of the record at a place: what it holds, which kind of link it is after the reversals, and its ends
-abbrev pub record_input : Drawing → Labelling → ℕ → HashWrites
+abbrev pub record_input : PlanData → Labelling → ℕ → HashWrites
 record_input p l place =
     fed.u64 (record_checksum (record_at p place))
     ++ (fed.u8 (role_number (role_after l (record_at p place))) ++ ends_input p l (record_at p place).ends)
 
 -- the same, if there is a record
-abbrev pub input_if_any : Drawing → Labelling → ℕ → HashWrites
+abbrev pub input_if_any : PlanData → Labelling → ℕ → HashWrites
 input_if_any p l place = if nat_lt place (length p.list) then record_input p l place else []
 
 -- what is hashed of the records at these places
-abbrev pub records_input : Drawing → Labelling → List ℕ → HashWrites
+abbrev pub records_input : PlanData → Labelling → List ℕ → HashWrites
 records_input p l places = flat_map (input_if_any p l) places
 
 -- the hash of all records, type by type and by their numbers
-abbrev pub fingerprint_of : Drawing → Labelling → ℕ
+abbrev pub fingerprint_of : PlanData → Labelling → ℕ
 fingerprint_of p l = hash_of (flat_map (λ kind. records_input p l (order_of l kind)) (Pno ∷ Par ∷ Pfe ∷ Fea ∷ Lnk ∷ []))

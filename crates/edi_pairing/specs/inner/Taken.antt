@@ -1,6 +1,6 @@
 -- The names of records as they are taken from the records' zones.
 use Rattle.std.specs.Prelude.{◌≡◌, ℕ, List, [], map, codes, unwrap_or}
-use Rattle.edi_line.specs.Entry.{Entry, first}
+use Rattle.edi_line.specs.ZoneData.{ZoneData, first}
 use Rattle.edi_record.specs.Records.{values}
 use Rattle.edi_record.specs.declared.record.Kind.{Kind}
 use Rattle.edi_record.specs.declared.record.Kind.TheVariants.{Pno}
@@ -9,16 +9,16 @@ use Rattle.edi_pairing.specs.declared.names.RecordName.{RecordName}
 use Rattle.edi_pairing.specs.declared.taken.TakenNames.{TakenNames}
 
 -- the type that the first RTY names, or that of nodes
-abbrev pub taken_kind : List Entry → Kind
+abbrev pub taken_kind : List ZoneData → Kind
 taken_kind group = unwrap_or (kind_in group) Pno
 
 -- the value of the first RID, or nothing
-abbrev pub taken_rid : List Entry → List ℕ
+abbrev pub taken_rid : List ZoneData → List ℕ
 taken_rid group = unwrap_or (first (values (codes "RID") group)) []
 
-abbrev pub taken_name : List Entry → RecordName
+abbrev pub taken_name : List ZoneData → RecordName
 taken_name group = record { kind = taken_kind group; rid = taken_rid group }
 
 -- the names are those of the records of these zones
-abbrev pub HasTaken : TakenNames → List (List Entry) → Type 0
+abbrev pub HasTaken : TakenNames → List (List ZoneData) → Type 0
 HasTaken taken groups = taken.list.items ≡ map taken_name groups

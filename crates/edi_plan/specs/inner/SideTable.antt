@@ -7,7 +7,7 @@ use Rattle.edi_schema.specs.ByRole.{of_role, no_values}
 use Rattle.edi_schema.specs.Roles.{is_plain, same_role}
 use Rattle.edi_schema.specs.declared.role.Role.{Role}
 use Rattle.edi_plan.specs.Joined.{beside, IsJoined}
-use Rattle.edi_plan.specs.Plans.{Drawing, same_kind}
+use Rattle.edi_plan.specs.Plans.{PlanData, same_kind}
 use Rattle.edi_plan.specs.Sides.{IsSideIfAny}
 use Rattle.edi_plan.specs.Whole.{IsWholePlan}
 use Rattle.edi_schema.specs.declared.by_role.ByRole.{ByRole}
@@ -19,12 +19,12 @@ abbrev pub side_at : List (ByRole (Option ℕ)) → ℕ → Role → Option ℕ
 side_at table place role = of_role (slice_index_or table place no_values) role
 
 -- the table has an entry for each record, and these are the nodes and the faces
-pub record AreSides (p : Drawing) (table : List (ByRole (Option ℕ))) : Type 0 where
+pub record AreSides (p : PlanData) (table : List (ByRole (Option ℕ))) : Type 0 where
   pub long : length table ≡ length p.list
   pub each : (a : ℕ) (role : Role) → IsSideIfAny p a role (side_at table a role)
 
 -- what each plan keeps, with its table
-pub record HoldsSides (p : Drawing) (table : List (ByRole (Option ℕ))) : Type 0 where
+pub record HoldsSides (p : PlanData) (table : List (ByRole (Option ℕ))) : Type 0 where
   pub whole : IsWholePlan p
   pub joined : IsJoined p
   pub sides : AreSides p table

@@ -6,7 +6,7 @@ use Rattle.edi_record.specs.declared.record.Kind.{Kind}
 use Rattle.edi_record.specs.declared.record.Kind.TheVariants.{Pfe, Lnk}
 use Rattle.edi_schema.specs.Classes.{Classes, partner_of}
 use Rattle.edi_plan.specs.Places.{places_of}
-use Rattle.edi_plan.specs.Plans.{Drawing, record_at}
+use Rattle.edi_plan.specs.Plans.{PlanData, record_at}
 use Rattle.edi_topo.specs.Ranking.{IsRanking}
 use Rattle.edi_rank.specs.Keys.{link_key, face_key_cmp, link_key_cmp}
 use Rattle.edi_rank.specs.Labelling.{NumbersEach, turned_at}
@@ -15,13 +15,13 @@ use Rattle.edi_rank.specs.declared.keys.LinkKey.{LinkKey}
 use Rattle.edi_rank.specs.Layers.{no_side, face_keys}
 
 -- the numbers of the faces by their keys, where the arcs have these numbers
-abbrev pub IsFaceRanking : Drawing → List ℕ → List ℕ → Type 0
+abbrev pub IsFaceRanking : PlanData → List ℕ → List ℕ → Type 0
 IsFaceRanking p arcs numbers =
     IsRanking face_key_cmp (λ m. slice_index_or (face_keys p arcs) m no_side) (length (places_of Pfe p)) numbers
 
 -- what the keys of links are made of: the plan, the schema, which records are turned, and the number of each record
 pub record LinkSource : Type 0 where
-  pub plan : Drawing
+  pub plan : PlanData
   pub classes : Classes
   pub turned : List Bool
   pub numbers : List ℕ
@@ -46,12 +46,12 @@ IsLinkRanking l numbers =
     (length (places_of Lnk l.plan)) numbers
 
 -- the numbers of the records of a type: from 1 to their count, no two equal
-pub record AreNumbersOf (p : Drawing) (kind : Kind) (numbers : List ℕ) : Type 0 where
+pub record AreNumbersOf (p : PlanData) (kind : Kind) (numbers : List ℕ) : Type 0 where
   pub all : length numbers ≡ length (places_of kind p)
   pub each : NumbersEach numbers
 
 -- the places of the records of a type, in the order of these numbers
-pub record ArePlacesBy (p : Drawing) (kind : Kind) (numbers order : List ℕ) : Type 0 where
+pub record ArePlacesBy (p : PlanData) (kind : Kind) (numbers order : List ℕ) : Type 0 where
   pub all : length order ≡ length (places_of kind p)
   pub each : (m : ℕ) → m < length (places_of kind p)
       → slice_index order (slice_index numbers m - 1) ≡ slice_index (places_of kind p) m

@@ -1,6 +1,6 @@
 -- Which of the broken rules of one record a private call names.
 use Rattle.std.specs.Prelude.{◌≡◌, ℕ, ⊤, Bool, true, List, Some}
-use Rattle.edi_line.specs.Entry.{Entry}
+use Rattle.edi_line.specs.ZoneData.{ZoneData}
 use Rattle.edi_line.specs.inner.Refusal.{first_broken}
 use Rattle.edi_record.specs.inner.RecordRules.{record_tests}
 use Rattle.edi_record.specs.declared.fault.GroupFault.{GroupFault}
@@ -14,7 +14,7 @@ IsBreachOf rule is_broken (GroupMemory e) = ⊤
 IsBreachOf rule is_broken (GroupBroken r) = (r ≡ rule) × (is_broken ≡ true)
 
 -- a fault of one record other than want of memory names the least rule that its zones break
-abbrev pub IsGroupRefusal : List Entry → GroupFault → Type 0
+abbrev pub IsGroupRefusal : List ZoneData → GroupFault → Type 0
 IsGroupRefusal group (GroupMemory e) = ⊤
 IsGroupRefusal group (GroupBroken rule) = first_broken (record_tests group) ≡ Some rule
 

@@ -1,6 +1,6 @@
 -- What a group of zones states, zone by zone: what reading finds.
 use Rattle.std.specs.Prelude.{◌≡◌, ℕ, Bool, true, false, not, ◌&&◌, ◌||◌, List, [], ◌∷◌, map, filter, if◌then◌else◌, codes, Option, Some, None, option_map, unwrap_or}
-use Rattle.edi_line.specs.Entry.{Entry, has_code}
+use Rattle.edi_line.specs.ZoneData.{ZoneData, has_code}
 use Rattle.edi_line.specs.inner.Number.{number}
 use Rattle.edi_record.specs.inner.Texts.{pointer, class_of, point}
 use Rattle.edi_record.specs.Shapes.{kind_code}
@@ -20,26 +20,26 @@ only (x ∷ []) = Some x
 only (x ∷ y ∷ xs) = None
 
 -- the first character set before the attribute's end
-unfoldable pub set_after : List Entry → Option (List ℕ)
+unfoldable pub set_after : List ZoneData → Option (List ℕ)
 set_after [] = None
 set_after (z ∷ zs) =
     if opens z || closes z then None else (if has_code (codes "TEX") z then Some z.value else set_after zs)
 
 -- the first value before the next attribute
-unfoldable pub value_after : List Entry → List ℕ
+unfoldable pub value_after : List ZoneData → List ℕ
 value_after [] = []
 value_after (z ∷ zs) = if opens z then [] else (if closes z then z.value else value_after zs)
 
 abbrev pub attribute : List ℕ → Option (List ℕ) → List ℕ → Option Attribute
 attribute class tex atv = option_map (λ name. record { atp = name; tex = tex; atv = atv }) (class_of class)
 
-unfoldable pub attributes : List Entry → List (Option Attribute)
+unfoldable pub attributes : List ZoneData → List (Option Attribute)
 attributes [] = []
 attributes (z ∷ zs) =
     if opens z then attribute z.value (set_after zs) (value_after zs) ∷ attributes zs else attributes zs
 
 -- the SNS before the next end
-unfoldable pub sns_after : List Entry → Option (List ℕ)
+unfoldable pub sns_after : List ZoneData → Option (List ℕ)
 sns_after [] = None
 sns_after (z ∷ zs) = if points_at z then None else (if has_code (codes "SNS") z then Some z.value else sns_after zs)
 
@@ -48,19 +48,19 @@ end_of text sns =
     option_map (λ p. record { lot = p.lot; subset = p.subset; target = record { rty = p.rty; rid = p.rid }; sns = sns })
     (pointer text)
 
-unfoldable pub ends : List Entry → List (Option End)
+unfoldable pub ends : List ZoneData → List (Option End)
 ends [] = []
 ends (z ∷ zs) = if points_at z then end_of z.value (sns_after zs) ∷ ends zs else ends zs
 
 -- each zone, and whether an attribute is open before it
 pub record Placed : Type 0 where
   pub open_before : Bool
-  pub zone : Entry
+  pub zone : ZoneData
 
-abbrev pub is_open_after : Bool → Entry → Bool
+abbrev pub is_open_after : Bool → ZoneData → Bool
 is_open_after before z = if opens z then true else (if closes z then false else before)
 
-unfoldable pub placed : Bool → List Entry → List Placed
+unfoldable pub placed : Bool → List ZoneData → List Placed
 placed before [] = []
 placed before (z ∷ zs) = (record { open_before = before; zone = z }) ∷ placed (is_open_after before z) zs
 
@@ -70,15 +70,15 @@ is_extra rty p = not ((has_code (codes "TEX") p.zone && p.open_before) || is_kno
 abbrev pub value_of : Bool → List ℕ → Value
 value_of may text = if may then unwrap_or (option_map Number (number text)) (Bytes text) else Bytes text
 
-abbrev pub extra : Entry → Extra
+abbrev pub extra : ZoneData → Extra
 extra z =
     record { code = z.code; nature = z.nature; format = z.format; value = value_of (may_be_number z.format) z.value }
 
-abbrev pub extras : Kind → List Entry → List Extra
+abbrev pub extras : Kind → List ZoneData → List Extra
 extras rty group = map (λ p. extra p.zone) (filter (is_extra rty) (placed false group))
 
 -- reading finds this record in a group of zones
-pub record ReadsAs (group : List Entry) (r : Record) : Type 0 where
+pub record ReadsAs (group : List ZoneData) (r : Record) : Type 0 where
   pub type : values (codes "RTY") group ≡ kind_code r.kind ∷ []
   pub rid : values (codes "RID") group ≡ r.rid ∷ []
   pub scp : map class_of (values (codes "SCP") group) ≡ Some r.scp ∷ []

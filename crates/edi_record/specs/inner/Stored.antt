@@ -1,7 +1,7 @@
 -- What is stored of a record's zones that have come, while others are left.
 use Rattle.std.specs.Prelude.{◌≡◌, ℕ, ◌+◌, ◌≤◌, Bool, true, false, not, ◌&&◌, ◌||◌, nat_le, is_some, is_none, List, [], ◌∷◌, ◌++◌, map, filter, length, if◌then◌else◌, Option, Some, None, option_map, codes, bytes_eq}
 use Rattle.std.specs.List.{list_any, before_first}
-use Rattle.edi_line.specs.Entry.{Entry, has_code}
+use Rattle.edi_line.specs.ZoneData.{ZoneData, has_code}
 use Rattle.edi_record.specs.inner.Texts.{point}
 use Rattle.edi_record.specs.Records.{values, has_points, is_link, opens, closes, points_at}
 use Rattle.edi_record.specs.inner.Records.{set_after, value_after, attributes, sns_after, ends, Placed, placed, is_open_after, is_extra, extra, extras}
@@ -58,9 +58,9 @@ AreTexts (One text) left all = all ≡ text.now ∷ left
 AreTexts Repeated left all = 2 ≤ length all
 
 -- a zone with this code and value goes from those that are left to those that have come
-abbrev pub Takes : {Part : Type 0} → (Part → List Entry → List Entry → Type 0) → List ℕ → List ℕ → Part → Part → Type 0
+abbrev pub Takes : {Part : Type 0} → (Part → List ZoneData → List ZoneData → Type 0) → List ℕ → List ℕ → Part → Part → Type 0
 Takes Keeps code value old new =
-    (z : Entry) (left group : List Entry) → has_code code z ≡ true → z.value ≡ value → Keeps old (z ∷ left) group
+    (z : ZoneData) (left group : List ZoneData) → has_code code z ≡ true → z.value ≡ value → Keeps old (z ∷ left) group
     → Keeps new left group
 
 -- the attributes that are done, beside the one that is open
@@ -128,7 +128,7 @@ abbrev pub is_stray : Placed → Bool
 is_stray p = closes p.zone && not p.open_before
 
 -- the character set that has come, or else the first of those that are left
-abbrev pub set_with : Option (List ℕ) → List Entry → Option (List ℕ)
+abbrev pub set_with : Option (List ℕ) → List ZoneData → Option (List ℕ)
 set_with (Some text) left = Some text
 set_with None left = set_after left
 
@@ -141,7 +141,7 @@ abbrev pub set_come : OpenAttribute → Option (List ℕ)
 set_come opened = option_map (λ s. s.now) opened.set
 
 -- the attributes that the zones which are left make with the open one
-abbrev pub attributes_with : Option OpenAttribute → List Entry → List (Option Attribute)
+abbrev pub attributes_with : Option OpenAttribute → List ZoneData → List (Option Attribute)
 attributes_with None left = attributes left
 attributes_with (Some opened) left =
     Some (attribute_of opened (set_with (set_come opened) left) (value_after left)) ∷ attributes left
@@ -152,14 +152,14 @@ closed_with value None = []
 closed_with value (Some opened) = attribute_of opened (set_come opened) value ∷ []
 
 -- among the zones that are left is a second character set, of the open attribute or of a later one
-abbrev pub repeats_with : Option OpenAttribute → List Entry → Bool
+abbrev pub repeats_with : Option OpenAttribute → List ZoneData → Bool
 repeats_with None left = repeats opens (λ z. opens z || closes z) (codes "TEX") left
 repeats_with (Some opened) left =
     nat_le (if is_some opened.set then 1 else 2) (count_until (λ z. opens z || closes z) (codes "TEX") left)
     || repeats opens (λ z. opens z || closes z) (codes "TEX") left
 
 -- of a group's attributes so much is stored, where these zones are left
-pub record StoresAttributes (a : KeptAttributes) (left group : List Entry) : Type 0 where
+pub record StoresAttributes (a : KeptAttributes) (left group : List ZoneData) : Type 0 where
   pub broken : a.is_broken ≡ true → has_bad_attribute group ≡ true
   pub made : a.is_broken ≡ false → attributes group ≡ map Some a.done ++ attributes_with a.opened left
   pub stray : a.is_broken ≡ false
@@ -171,17 +171,17 @@ abbrev pub LeavesOpen : Bool → Attributes → Attributes → Type 0
 LeavesOpen is_open old new = new.is_broken ≡ false → (old.is_broken ≡ false) × (is_some new.opened ≡ is_open)
 
 -- of a group's points so much is stored, where these zones are left
-pub record StoresPoints (p : KeptPoints) (left group : List Entry) : Type 0 where
+pub record StoresPoints (p : KeptPoints) (left group : List ZoneData) : Type 0 where
   pub broken : p.is_broken ≡ true → list_any is_none (map point (values (codes "COR") group)) ≡ true
   pub made : p.is_broken ≡ false
       → map point (values (codes "COR") group) ≡ map Some p.list ++ map point (values (codes "COR") left)
 
 -- an SNS comes before any end
-abbrev pub has_stray : List Entry → Bool
+abbrev pub has_stray : List ZoneData → Bool
 has_stray group = list_any (has_code (codes "SNS")) (before_first points_at group)
 
 -- the SNS that has come, or else the first of those that are left
-abbrev pub sns_with : Option (List ℕ) → List Entry → Option (List ℕ)
+abbrev pub sns_with : Option (List ℕ) → List ZoneData → Option (List ℕ)
 sns_with (Some text) left = Some text
 sns_with None left = sns_after left
 
@@ -198,7 +198,7 @@ end_with opened sns = record {
 }
 
 -- the ends that the zones which are left make with the open one
-abbrev pub ends_with : Option OpenEnd → List Entry → List (Option End)
+abbrev pub ends_with : Option OpenEnd → List ZoneData → List (Option End)
 ends_with None left = ends left
 ends_with (Some opened) left = Some (end_with opened (sns_with (sns_come opened) left)) ∷ ends left
 
@@ -208,38 +208,38 @@ ended_with None = []
 ended_with (Some opened) = end_with opened (sns_come opened) ∷ []
 
 -- among the zones that are left is an SNS before any end, or a second one, of the open end or of a later one
-abbrev pub bad_sns_with : Option OpenEnd → List Entry → Bool
+abbrev pub bad_sns_with : Option OpenEnd → List ZoneData → Bool
 bad_sns_with None left = has_stray left || repeats points_at points_at (codes "SNS") left
 bad_sns_with (Some opened) left =
     nat_le (if is_some opened.sense then 1 else 2) (count_until points_at (codes "SNS") left)
     || repeats points_at points_at (codes "SNS") left
 
 -- of a group's ends so much is stored, where these zones are left
-pub record StoresEnds (e : KeptEnds) (left group : List Entry) : Type 0 where
+pub record StoresEnds (e : KeptEnds) (left group : List ZoneData) : Type 0 where
   pub broken : e.is_broken ≡ true → (list_any is_none (ends group) || bad_sns_with None group) ≡ true
   pub made : e.is_broken ≡ false → ends group ≡ map Some e.done ++ ends_with e.opened left
   pub sns : e.is_broken ≡ false → bad_sns_with None group ≡ bad_sns_with e.opened left
 
 -- the extras among zones before which an attribute is open or none is
-abbrev pub extras_after : Kind → Bool → List Entry → List Extra
+abbrev pub extras_after : Kind → Bool → List ZoneData → List Extra
 extras_after kind is_open zs = map (λ (p : Placed). extra p.zone) (filter (is_extra kind) (placed is_open zs))
 
 -- of a group's extras so much is stored, where these zones are left, and an attribute is open or none is
-pub record StoresExtras (kind : Kind) (is_open : Bool) (e : KeptExtras) (left group : List Entry) : Type 0 where
+pub record StoresExtras (kind : Kind) (is_open : Bool) (e : KeptExtras) (left group : List ZoneData) : Type 0 where
   pub broken : e.is_broken ≡ true → list_any (is_unknown_pointer kind) (placed false group) ≡ true
   pub made : e.is_broken ≡ false → extras kind group ≡ e.list ++ extras_after kind is_open left
   pub unknown : e.is_broken ≡ false → list_any (is_unknown_pointer kind) (placed false group)
       ≡ list_any (is_unknown_pointer kind) (placed is_open left)
 
 -- an extra goes from the zones that are left to those that have come
-abbrev pub TakesExtra : Entry → KeptExtras → KeptExtras → Type 0
+abbrev pub TakesExtra : ZoneData → KeptExtras → KeptExtras → Type 0
 TakesExtra z old new =
-    (kind : Kind) (is_open : Bool) (left group : List Entry)
+    (kind : Kind) (is_open : Bool) (left group : List ZoneData)
     → is_extra kind (record { open_before = is_open; zone = z }) ≡ true
     → StoresExtras kind is_open old (z ∷ left) group → StoresExtras kind (is_open_after is_open z) new left group
 
 -- of a group so much is stored, where these zones are left
-pub record StoresRecord (d : KeptRecord) (left group : List Entry) : Type 0 where
+pub record StoresRecord (d : KeptRecord) (left group : List ZoneData) : Type 0 where
   pub identifier : AreTexts d.identifier (values (codes "RID") left) (values (codes "RID") group)
   pub class : AreTexts d.class (values (codes "SCP") left) (values (codes "SCP") group)
   pub attribute_count : AreTexts d.attribute_count (values (codes "ATC") left) (values (codes "ATC") group)

@@ -1,7 +1,7 @@
 -- Sites that are held packed.
 use Rattle.std.specs.Prelude.{◌≡◌, List}
 use Rattle.std.specs.List.{AllZip}
-use Rattle.edi_line.specs.Entry.{Entry}
+use Rattle.edi_line.specs.ZoneData.{ZoneData}
 use Rattle.edi_report.specs.Sites.{IsSite}
 use Rattle.edi_report.specs.declared.site.Site.{Site}
 use Rattle.edi_report.specs.declared.packed.LastSite.{LastSite}
@@ -18,5 +18,5 @@ pub record IsPackingOf (packed : PackedSites) (sites : List Site) : Type 0 where
   pub last_is : site_in packed.last ≡ last_of start sites
 
 -- the sites of the records of these zones are packed
-abbrev pub PacksSitesOf : PackedSites → List (List Entry) → Type 0
+abbrev pub PacksSitesOf : PackedSites → List (List ZoneData) → Type 0
 PacksSitesOf packed groups = (sites : List Site) × AllZip IsSite groups sites × IsPackingOf packed sites

@@ -1,6 +1,6 @@
 -- Accepted sheets, with where their records stand, packed.
 use Rattle.std.specs.Prelude.{ℕ, List}
-use Rattle.edi_record.specs.Beside.{HasTakenAll}
+use Rattle.edi_record.specs.Observers.{SawAll}
 use Rattle.edi_schema.specs.Classes.{Classes}
 use Rattle.edi_plan.specs.Agreeing.{HasClasses}
 use Rattle.edi_compare.specs.PlanOfFile.{IsPlanOfFile}
@@ -15,7 +15,7 @@ pub record IsPackedSheet (s : Classes) (b : List ℕ) (sheet : PackedSheet) : Ty
   pub accepted : IsAccepted s b
   pub plan : IsPlanOfFile s b sheet.accepted
   pub classes : HasClasses s sheet.accepted
-  pub sites : HasTakenAll b (PacksSitesOf sheet.sites)
+  pub sites : SawAll b (PacksSitesOf sheet.sites)
 
 -- of whatever file the one is the sheet with its sites packed, the other is the sheet of that file
 abbrev pub IsUnpacked : PackedSheet → LocatedSheet → Type 0

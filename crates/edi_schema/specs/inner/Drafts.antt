@@ -1,6 +1,6 @@
 -- What single records of a schema's files say.
 use Rattle.std.specs.Prelude.{ℕ, Bool, List, [], ◌∷◌, Option, Some, None, codes, option_map, option_and_then, unwrap_or, find}
-use Rattle.edi_line.specs.Entry.{Entry}
+use Rattle.edi_line.specs.ZoneData.{ZoneData}
 use Rattle.edi_record.specs.declared.name.Name.{Name}
 use Rattle.edi_record.specs.Records.{values, first}
 use Rattle.edi_record.specs.RecordRules.{has_no_identifier}
@@ -18,11 +18,11 @@ abbrev pub name_parts : Name → List (List ℕ)
 name_parts name = name.rty ∷ name.rid ∷ []
 
 -- the value of the first zone with a code, or nothing
-abbrev pub text_in : List ℕ → List Entry → List ℕ
+abbrev pub text_in : List ℕ → List ZoneData → List ℕ
 text_in code group = unwrap_or (first (values code group)) []
 
 -- the name of a record; what is missing is empty
-abbrev pub name_in : List Entry → Name
+abbrev pub name_in : List ZoneData → Name
 name_in group = record { rty = text_in (codes "RTY") group; rid = text_in (codes "RID") group }
 
 -- the name that is borrowed from a title
@@ -37,7 +37,7 @@ pub record Said : Type 0 where
   pub kind : Option (List ℕ)
   pub word_type : Option (List ℕ)
 
-abbrev pub said_in : List Entry → Said
+abbrev pub said_in : List ZoneData → Said
 said_in group = record {
   name = name_in group;
   lacks_identifier = has_no_identifier group;

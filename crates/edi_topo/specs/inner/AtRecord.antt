@@ -1,7 +1,7 @@
 -- The rules of topology at one record.
 use Rattle.std.specs.Prelude.{◌≡◌, ℕ, suc, ◌≤◌, IfOk, Option, MatchOption, Some}
 use Rattle.std.specs.Result.{result_err}
-use Rattle.edi_plan.specs.Plans.{Drawing}
+use Rattle.edi_plan.specs.Plans.{PlanData}
 use Rattle.edi_topo.specs.TopologyRules.{BreaksTopologyRule}
 use Rattle.edi_topo.specs.inner.Faces.{AreFaced}
 use Rattle.edi_topo.specs.NodeKeys.{IsNodeRanking}
@@ -11,16 +11,16 @@ use Rattle.edi_topo.specs.inner.Arcs as Arcs
 use Rattle.edi_topo.specs.declared.at_record.RecordFindings.{RecordFindings}
 
 -- no rule is broken at the record of this place, from 0
-abbrev pub IsUnbrokenAt : Drawing → ℕ → Type 0
+abbrev pub IsUnbrokenAt : PlanData → ℕ → Type 0
 IsUnbrokenAt p place = (rule : ℕ) → ¬ (BreaksTopologyRule p rule (suc place))
 
 -- the rule is the least that is broken there
-pub record IsLeastAt (p : Drawing) (place rule : ℕ) : Type 0 where
+pub record IsLeastAt (p : PlanData) (place rule : ℕ) : Type 0 where
   pub is : BreaksTopologyRule p rule (suc place)
   pub least : (other : ℕ) → BreaksTopologyRule p other (suc place) → rule ≤ other
 
 -- the least rule that is broken there, or none is
-abbrev pub IsLeastAtIfAny : Drawing → ℕ → Option ℕ → Type 0
+abbrev pub IsLeastAtIfAny : PlanData → ℕ → Option ℕ → Type 0
 IsLeastAtIfAny p place found = MatchOption found (IsUnbrokenAt p place) (IsLeastAt p place)
 
 -- the place isn't past this one, if there is one
@@ -29,7 +29,7 @@ IsUpTo found place = (k : ℕ) → found ≡ Some k → place ≤ k
 
 -- what was found: the numbers of the nodes and of the arcs, or the first that repeats an earlier one, and which faces
 -- are on a side
-pub record AreFindings (p : Drawing) (found : RecordFindings) : Type 0 where
+pub record AreFindings (p : PlanData) (found : RecordFindings) : Type 0 where
   pub nodes : IfOk found.nodes (IsNodeRanking p)
   pub node_repeat : Nodes.IsFirstRepeatIfAny p (result_err found.nodes)
   pub arcs : IfOk found.arcs (IsForwardRanking p)

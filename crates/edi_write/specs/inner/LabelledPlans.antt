@@ -1,12 +1,12 @@
 -- A plan under its schema, with its labels.
 use Rattle.edi_schema.specs.Classes.{Classes}
 use Rattle.edi_plan.specs.Agreeing.{Agrees}
-use Rattle.edi_plan.specs.Plans.{Drawing}
+use Rattle.edi_plan.specs.Plans.{PlanData}
 use Rattle.edi_rank.specs.Labelling.{Labelling, AreLabels}
 
 pub record Labelled : Type 0 where
   pub classes : Classes
-  pub plan : Drawing
+  pub plan : PlanData
   pub labels : Labelling
 
 -- the plan agrees with the schema, and the labels are its own

@@ -1,6 +1,6 @@
 use Rattle.std.proofs.Common.{◌∙◌, sym, subst}
 use Rattle.std.proofs.lemmas.Result.{IfOk-weaker}
-use Rattle.edi_plan.specs.Plans.{Drawing}
+use Rattle.edi_plan.specs.Plans.{PlanData}
 use Rattle.edi_record.specs.RecordRefusal.{IsRecordRefusal}
 use Rattle.edi_rank.specs.EqualObjects.{BreaksObjectRule}
 use Rattle.edi_topo.specs.TopologyRules.{BreaksTopologyRule}
@@ -20,7 +20,7 @@ returns-in-Ok c =
     let b = c.args.bytes.now in
     let held = topology_held s b c.requires.held c.args.plan c.requires.plan c.in-Ok.ensures.sound in
     IfOk-weaker c.broken_objects.result _ _ (λ list h. all_of_objects s b list.items held c.args.plan c.requires.plan
-    (subst (λ (p : Drawing). AreAllBroken (BreaksObjectRule p) list.items) c.in-Ok.ensures.plan h)) c.broken_objects.ensures
+    (subst (λ (p : PlanData). AreAllBroken (BreaksObjectRule p) list.items) c.in-Ok.ensures.plan h)) c.broken_objects.ensures
 
 pub unreachable-requires : goal.unreachable-requires
 unreachable-requires c =

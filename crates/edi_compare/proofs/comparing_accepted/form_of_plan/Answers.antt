@@ -2,7 +2,7 @@ use Rattle.std.proofs.Common.{◌∙◌, ap, subst, sym}
 use Rattle.edi_line.specs.Bytes.{IsBytes}
 use Rattle.edi_plan.proofs.Built.{plans_agreeing}
 use Rattle.edi_plan.specs.Agreeing.{Agrees}
-use Rattle.edi_plan.specs.Plans.{Drawing}
+use Rattle.edi_plan.specs.Plans.{PlanData}
 use Rattle.edi_rank.specs.Arranged.{arranged}
 use Rattle.edi_rank.specs.Labelling.{AreLabels}
 use Rattle.edi_write.specs.Layout.{layout}
@@ -16,7 +16,7 @@ labels_of-requires c = subst (IsHeldPlan c.args.schema.now) (sym c.sound-sound.e
 pub write_canon-requires : goal.write_canon-requires
 write_canon-requires c =
     let states = c.requires.3 in record {
-      agrees = subst (λ (p : Drawing). Agrees c.args.schema.now p) (sym c.sound-sound.ensures) (plans_agreeing c.args.schema.now states.0 c.args.sheet.now states.2);
+      agrees = subst (λ (p : PlanData). Agrees c.args.schema.now p) (sym c.sound-sound.ensures) (plans_agreeing c.args.schema.now states.0 c.args.sheet.now states.2);
       labels = c.in_ok-labels.ensures;
     }
 
@@ -24,5 +24,5 @@ pub returns : goal.returns
 returns c =
     let s = c.args.schema.now in
     plan_form s c.args.sheet.now c.in_ok-labels.labels c.in_ok-file.file.items c.keeps.ensures (subst IsBytes c.deref.ensures.value c.hold_bytes.ensures.bytes) c.requires
-    (subst (λ (p : Drawing). AreLabels s p c.in_ok-labels.labels) c.sound-sound.ensures c.in_ok-labels.ensures)
-    (c.in_ok-file.ensures ∙ ap (λ (p : Drawing). layout s (arranged s c.in_ok-labels.labels p)) c.sound-sound.ensures)
+    (subst (λ (p : PlanData). AreLabels s p c.in_ok-labels.labels) c.sound-sound.ensures c.in_ok-labels.ensures)
+    (c.in_ok-file.ensures ∙ ap (λ (p : PlanData). layout s (arranged s c.in_ok-labels.labels p)) c.sound-sound.ensures)

@@ -1,5 +1,5 @@
 use Rattle.std.proofs.Common.{◌+◌, ◌≤◌, length}
-use Rattle.edi_line.specs.Entry.{entries}
+use Rattle.edi_line.specs.ZoneData.{entries}
 use Rattle.edi_delivery.specs.inner.Noted.{HasNoted}
 use Rattle.edi_delivery.proofs.Read.{SoFar}
 use Rattle.edi_delivery.proofs.delivery.lots_of.Given as goal

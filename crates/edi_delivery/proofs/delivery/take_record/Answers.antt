@@ -1,6 +1,6 @@
 use Rattle.std.proofs.Common.{sym, ◌∙◌}
 use Rattle.std.proofs.lemmas.Result.{err_from_is_err_and}
-use Rattle.edi_line.specs.Entry.{entries}
+use Rattle.edi_line.specs.ZoneData.{entries}
 use Rattle.edi_delivery.proofs.LotSteps.{if_rule, err_of}
 use Rattle.edi_delivery.proofs.Read.{support_taken, own_least, take_least, lot_taken, ok_taken}
 use Rattle.edi_delivery.proofs.delivery.take_record.Goals as goal

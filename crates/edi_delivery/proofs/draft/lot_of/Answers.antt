@@ -1,4 +1,4 @@
-use Rattle.edi_line.specs.Entry.{entries}
+use Rattle.edi_line.specs.ZoneData.{entries}
 use Rattle.edi_delivery.proofs.LotSteps.{err_of, least_708}
 use Rattle.edi_delivery.proofs.draft.lot_of.Goals as goal
 

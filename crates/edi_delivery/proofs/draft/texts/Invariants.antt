@@ -1,5 +1,5 @@
 use Rattle.std.proofs.Common.{◌≡◌, map, take}
-use Rattle.edi_line.specs.Entry.{entries}
+use Rattle.edi_line.specs.ZoneData.{entries}
 use Rattle.edi_record.specs.Records.{values}
 use Rattle.edi_delivery.proofs.draft.texts.Given as goal
 

@@ -1,6 +1,6 @@
 use Rattle.std.proofs.Common.{◌≡◌, ◌∙◌, ℕ, Bool, List, Option, length, ap, sym, subst, true≢false}
 use Rattle.edi_report.specs.Tables.{AreMarks}
-use Rattle.edi_plan.specs.Plans.{Drawing}
+use Rattle.edi_plan.specs.Plans.{PlanData}
 use Rattle.edi_diff.proofs.Outcomes.{all_matched, not_true, total_reported, total_went, total_marked}
 use Rattle.edi_diff.proofs.totals.is_total.Goals as goal
 
@@ -20,7 +20,7 @@ returns-in_ok-marks c =
     let q = c.args.second.now.accepted in
     let m = c.args.matching.now in
     let marks = c.deref.result.now in
-    let long : c.len.result ≡ length q.list = c.len.ensures ∙ ap (λ (d : Drawing). length d.list) (c.plan.ensures.plan ∙ c.sound.ensures) in
+    let long : c.len.result ≡ length q.list = c.len.ensures ∙ ap (λ (d : PlanData). length d.list) (c.plan.ensures.plan ∙ c.sound.ensures) in
     let are : AreMarks m.to (length q.list) marks = subst (λ (n : ℕ). AreMarks m.to n marks) long
     (subst (λ (to : List (Option ℕ)). AreMarks to c.len.result marks) c.as_slice-to.ensures
     (subst (λ (ms : List Bool). AreMarks c.as_slice-to.result.now c.len.result ms) (sym c.deref.ensures.value) c.in_ok-marks.ensures)) in

@@ -1,5 +1,5 @@
 use Rattle.std.proofs.Common.{ℕ, ◌<◌, option_map}
-use Rattle.edi_line.specs.Entry.{entries}
+use Rattle.edi_line.specs.ZoneData.{entries}
 use Rattle.edi_explain.specs.AstrayZones.{IsAstrayAt}
 use Rattle.edi_explain.proofs.astray.first_astray.Given as goal
 

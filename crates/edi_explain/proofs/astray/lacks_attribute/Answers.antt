@@ -1,6 +1,6 @@
 use Rattle.std.proofs.Common.{◌≡◌, ◌∙◌, codes, sym, subst, true}
 use Rattle.std.proofs.lemmas.Result.{IfOk-weaker}
-use Rattle.edi_line.specs.Entry.{entry, has_code}
+use Rattle.edi_line.specs.ZoneData.{entry, has_code}
 use Rattle.edi_explain.specs.AstrayZones.{NamesNoAttribute}
 use Rattle.edi_explain.proofs.astray.lacks_attribute.Goals as goal
 

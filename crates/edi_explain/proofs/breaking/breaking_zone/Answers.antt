@@ -1,5 +1,5 @@
 use Rattle.std.proofs.Common.{sym}
-use Rattle.edi_line.specs.Entry.{entries}
+use Rattle.edi_line.specs.ZoneData.{entries}
 use Rattle.edi_explain.proofs.Passing.{no_zone_found}
 use Rattle.edi_explain.proofs.breaking.breaking_zone.Goals as goal
 

@@ -1,5 +1,5 @@
 use Rattle.std.proofs.Common.{◌≡◌, ◌∙◌, codes, sym, subst, true}
-use Rattle.edi_line.specs.Entry.{entry, has_code}
+use Rattle.edi_line.specs.ZoneData.{entry, has_code}
 use Rattle.edi_explain.specs.BreakingZones.{NamesType}
 use Rattle.edi_explain.proofs.breaking.ends_at.Goals as goal
 

@@ -1,7 +1,7 @@
 use Rattle.std.proofs.Common.{◌++◌, [], ◌∷◌, arith, subst, sym, take}
 use Rattle.std.proofs.lemmas.List.{length-map}
 use Rattle.std.proofs.lemmas.Option.{slice_get_within}
-use Rattle.edi_line.specs.Entry.{entries, entry}
+use Rattle.edi_line.specs.ZoneData.{entries, entry}
 use Rattle.edi_record.proofs.StatesSaid.{open_more, open_none}
 use Rattle.edi_explain.specs.BreakingZones.{PassesAt}
 use Rattle.edi_explain.specs.inner.OpenAttributes.{LeavesOpen}

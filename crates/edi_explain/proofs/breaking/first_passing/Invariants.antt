@@ -1,5 +1,5 @@
 use Rattle.std.proofs.Common.{ℕ, ◌<◌, take}
-use Rattle.edi_line.specs.Entry.{entries}
+use Rattle.edi_line.specs.ZoneData.{entries}
 use Rattle.edi_explain.specs.BreakingZones.{PassesAt}
 use Rattle.edi_explain.specs.inner.OpenAttributes.{LeavesOpen}
 use Rattle.edi_explain.proofs.breaking.first_passing.Given as goal

@@ -1,7 +1,7 @@
 use Rattle.std.proofs.Common.{rules, ◌∙◌, sym}
 use Rattle.std.proofs.lemmas.Iterator.{YieldsList-from_slice}
 use Rattle.std.proofs.lemmas.Iterator.Search.{any_from_yields_List}
-use Rattle.edi_line.specs.Entry.{entry, has_code}
+use Rattle.edi_line.specs.ZoneData.{entry, has_code}
 use Rattle.edi_schema.proofs.Pointable.{any_of_map}
 use Rattle.edi_explain.proofs.breaking.has.Goals as goal
 

@@ -1,4 +1,4 @@
-use Rattle.edi_line.specs.Entry.{entries}
+use Rattle.edi_line.specs.ZoneData.{entries}
 use Rattle.edi_explain.proofs.breaking.passes.Goals as goal
 
 pub returns-in-BadCount : goal.returns-in-BadCount

@@ -1,5 +1,5 @@
 use Rattle.std.proofs.Common.{◌≡◌, ◌∙◌, List, ℕ, codes, sym, subst, true}
-use Rattle.edi_line.specs.Entry.{entry, has_code}
+use Rattle.edi_line.specs.ZoneData.{entry, has_code}
 use Rattle.edi_record.specs.Texts.{IsPosition}
 use Rattle.edi_record.specs.declared.record.Point.{Point}
 use Rattle.edi_explain.proofs.breaking.places_nothing.Goals as goal

@@ -1,5 +1,5 @@
 use Rattle.std.proofs.Common.{◌-◌, ◌<◌, ℕ, List, arith, ⊎_elim, subst, sym}
-use Rattle.edi_line.specs.Entry.{entries}
+use Rattle.edi_line.specs.ZoneData.{entries}
 use Rattle.edi_line.specs.LineRules.{IsZonesOf}
 use Rattle.edi_line.specs.declared.zone.Zone.{Zone}
 use Rattle.edi_explain.specs.Refusals.{IsEarlierIfAny}

@@ -1,6 +1,6 @@
 use Rattle.std.proofs.Common.{◌-◌, ℕ, arith, subst}
 use Rattle.std.proofs.lemmas.Result.{IfOk-weaker}
-use Rattle.edi_plan.specs.Plans.{Drawing}
+use Rattle.edi_plan.specs.Plans.{PlanData}
 use Rattle.edi_rank.specs.EqualObjects.{BreaksObjectRule}
 use Rattle.edi_record.specs.RecordRefusal.{IsRecordRefusal}
 use Rattle.edi_compare.proofs.Phases.{all_held, object_refusal}
@@ -25,6 +25,6 @@ returns-clause-found c =
     let is = object_rule p rule at least.is in
     c.found_at.ensures s b (object_refusal s b rule at c.requires.held p c.requires.plan least)
     (IfOk-weaker c.equal_object-earlier.result _ _ (λ earlier found. object_earlier s b p c.requires.plan rule (at - 1) earlier is
-    (subst (λ (q : Drawing). IsLeastIfAny (IsEqualObject q (at - 1)) earlier) c.plan.ensures.plan
+    (subst (λ (q : PlanData). IsLeastIfAny (IsEqualObject q (at - 1)) earlier) c.plan.ensures.plan
     (subst (λ (n : ℕ). IsLeastIfAny (IsEqualObject c.plan.result.now n) earlier) c.saturating_sub.ensures found))) c.equal_object-earlier.ensures)
     (no_end_node s b rule (at - 1) (λ e. omega (arith, e, is)) (λ e. omega (arith, e, is)))

@@ -1,7 +1,7 @@
 use Rattle.std.proofs.Common.{List, Option, subst, sym}
 use Rattle.std.specs.Prelude.{IfSome}
 use Rattle.std.specs.Global.{Vec}
-use Rattle.edi_line.specs.Entry.{entries}
+use Rattle.edi_line.specs.ZoneData.{entries}
 use Rattle.edi_line.specs.LineRules.{IsZonesOf}
 use Rattle.edi_line.specs.declared.zone.Zone.{Zone}
 use Rattle.edi_explain.proofs.Phases.{lines_hold}

@@ -1,6 +1,6 @@
 use Rattle.std.proofs.Common.{◌≡◌, ◌++◌, List, [], ℕ, ap, append-nil, ◌∙◌, refl, subst, sym}
 use Rattle.std.proofs.lemmas.Result.{IfOk-weaker}
-use Rattle.edi_line.specs.Entry.{Entry}
+use Rattle.edi_line.specs.ZoneData.{ZoneData}
 use Rattle.edi_line.specs.LineRules.{BreaksLineRule, IsZonesOf}
 use Rattle.edi_line.specs.Refusal.{IsLeastBroken, IsUnbroken}
 use Rattle.edi_line.specs.Zones.{groups_of}
@@ -63,12 +63,12 @@ returns-in-Entry c =
     )) c.explain_row.ensures)
 
 -- the records of the file of classes break the rule, whichever zones it has
-broken_in : (scd dic : List ℕ) (kinds : KindCodes) → IsSchemaRefusal scd dic kinds Kinds → (zones : List Entry) → IsZonesOf scd zones → BreaksKinds (groups_of zones) [] kinds
+broken_in : (scd dic : List ℕ) (kinds : KindCodes) → IsSchemaRefusal scd dic kinds Kinds → (zones : List ZoneData) → IsZonesOf scd zones → BreaksKinds (groups_of zones) [] kinds
 broken_in scd dic kinds refusal zones is =
     let h = refusal.1 in
     let file = h.2.0 in
     let groups : h.0 ≡ groups_of zones = sym (file_said file.0 file.1 h.0 file.3).1 ∙ ap groups_of (zones_of_one scd file.0 zones file.2 is) in
-    subst (λ (gs : List (List Entry)). BreaksKinds gs [] kinds) groups h.4
+    subst (λ (gs : List (List ZoneData)). BreaksKinds gs [] kinds) groups h.4
 
 pub explain_kinds-requires : goal.explain_kinds-requires
 explain_kinds-requires c =

@@ -1,5 +1,5 @@
 use Rattle.std.proofs.Common.{inl, inr, sym, refl}
-use Rattle.edi_line.specs.Entry.{entries}
+use Rattle.edi_line.specs.ZoneData.{entries}
 use Rattle.edi_line.specs.Zones.{groups_of}
 use Rattle.edi_explain.specs.KindClasses.{codes_of}
 use Rattle.edi_explain.proofs.KindRows.{behind_all, of_role, barred_wrong, not_barred}

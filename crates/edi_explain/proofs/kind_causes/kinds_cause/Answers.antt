@@ -1,4 +1,4 @@
-use Rattle.edi_line.specs.Entry.{entries}
+use Rattle.edi_line.specs.ZoneData.{entries}
 use Rattle.edi_line.specs.Zones.{groups_of}
 use Rattle.edi_explain.specs.KindClasses.{codes_of}
 use Rattle.edi_explain.specs.declared.kind_causes.KindsCase.TheVariants.{Alone, Barred}

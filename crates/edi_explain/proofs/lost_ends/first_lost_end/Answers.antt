@@ -1,7 +1,7 @@
 use Rattle.std.proofs.Common.{◌≡◌, ◌∙◌, true, codes, sym, subst, arith}
 use Rattle.std.proofs.lemmas.List.{length-map}
 use Rattle.std.proofs.lemmas.Option.{slice_get_within}
-use Rattle.edi_line.specs.Entry.{Entry, entries, entry, has_code}
+use Rattle.edi_line.specs.ZoneData.{ZoneData, entries, entry, has_code}
 use Rattle.edi_explain.specs.AstrayZones.{IsLostEndAt, NamesNoElement}
 use Rattle.edi_explain.proofs.Leasts.{least_here, none_here}
 use Rattle.edi_explain.proofs.Passing.{same_entry, zone_there}
@@ -27,7 +27,7 @@ loop-place-preserved c = λ groups h.
     let zone = c.index-group-place in
     none_here (IsLostEndAt groups (entries zones)) place (c.loop-place.invariant groups h)
     (λ k. let same = same_entry k.0 (entry zone.result) (sym k.1 ∙ zone_there zones place zone.result c.loop-place-test.true zone.is) in
-    let t = (c.in_ok-is_lost_end.ensures groups h).1 (subst (λ (x : Entry). (has_code (codes "FTP") x ≡ true) × NamesNoElement groups x.value) same (k.2, k.3)) in let f = c.if-branch.false in cc)
+    let t = (c.in_ok-is_lost_end.ensures groups h).1 (subst (λ (x : ZoneData). (has_code (codes "FTP") x ≡ true) × NamesNoElement groups x.value) same (k.2, k.3)) in let f = c.if-branch.false in cc)
 
 pub returns : goal.returns
 returns c = λ groups h z k.

@@ -1,4 +1,4 @@
-use Rattle.edi_line.specs.Entry.{entries}
+use Rattle.edi_line.specs.ZoneData.{entries}
 use Rattle.edi_explain.proofs.HandedOn.{all_handed, group_is_one, none_handed, none_more_handed, one_more_handed}
 use Rattle.edi_explain.proofs.lost_ends.hand_on.Goals as goal
 

@@ -1,5 +1,5 @@
 use Rattle.std.proofs.Common.{length}
-use Rattle.edi_line.specs.Entry.{entries}
+use Rattle.edi_line.specs.ZoneData.{entries}
 use Rattle.edi_explain.proofs.HandedOn.{HandedOn}
 use Rattle.edi_explain.proofs.lost_ends.hand_on.Given as goal
 

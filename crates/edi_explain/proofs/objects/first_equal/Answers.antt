@@ -1,14 +1,14 @@
 use Rattle.std.proofs.Common.{◌≡◌, ◌<◌, ◌∙◌, ℕ, List, get_or, sym, ap, subst, arith}
 use Rattle.edi_record.specs.declared.record.Kind.TheVariants.{Fea}
 use Rattle.edi_plan.specs.Places.{places_of}
-use Rattle.edi_plan.specs.Plans.{Drawing}
+use Rattle.edi_plan.specs.Plans.{PlanData}
 use Rattle.edi_rank.specs.Pieces.{ObjectSource, object_key_at}
 use Rattle.edi_explain.specs.Partners.{IsEqualObject, IsLeast}
 use Rattle.edi_explain.proofs.Equal.{object_place, equal_by_key, key_of_equal, more_not_equal, least_equal, none_equal_before}
 use Rattle.edi_explain.proofs.objects.first_equal.Goals as goal
 
 -- the key is of the plan's object, since the layer is of the plan
-of_plan : (l : ObjectSource) (p : Drawing) (i : ℕ) → l.plan ≡ p → object_key_at l (object_place l.plan i) ≡ object_key_at l (object_place p i)
+of_plan : (l : ObjectSource) (p : PlanData) (i : ℕ) → l.plan ≡ p → object_key_at l (object_place l.plan i) ≡ object_key_at l (object_place p i)
 of_plan l p i e = ap (λ q. object_key_at l (object_place q i)) e
 
 pub returns-then-branch : goal.returns-then-branch

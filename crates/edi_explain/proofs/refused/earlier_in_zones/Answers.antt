@@ -1,6 +1,6 @@
 use Rattle.std.proofs.Common.{◌≡◌, List, arith, ⊎_elim, subst}
 use Rattle.std.specs.List.{AllZip}
-use Rattle.edi_line.specs.Entry.{Entry, entries}
+use Rattle.edi_line.specs.ZoneData.{ZoneData, entries}
 use Rattle.edi_line.specs.Zones.{groups_of}
 use Rattle.edi_line.proofs.ZonesSaid.{zones_of_one}
 use Rattle.edi_record.specs.Records.{States}
@@ -13,7 +13,7 @@ returns-then-rule-eq301 c = λ s b sheet read states.
     let is : c.args.rule ≡ 301 = c.if-rule-eq301.true in
     let place = c.args.place in
     let zones = entries c.args.zones.now in
-    let all = subst (λ (zs : List Entry). AllZip States (groups_of zs) sheet.list) (zones_of_one b states.0 zones states.1 read) states.2.records in
+    let all = subst (λ (zs : List ZoneData). AllZip States (groups_of zs) sheet.list) (zones_of_one b states.0 zones states.1 read) states.2.records in
     record {
       names = λ e. (sheet, states, least_as _ _ (names_shared (groups_of zones) sheet.list all place) (rows_shared (groups_of zones) sheet.list all place) c.row_namesake.result c.row_namesake.ensures);
       subsets = λ e. absurd (omega (arith, e, is));
@@ -29,7 +29,7 @@ returns-else-rule-eq301 c = λ s b sheet read states.
     let is : c.args.rule ≡ 304 = ⊎_elim (λ e. absurd (c.if-rule-eq301.false e)) (λ e. e) c.requires in
     let place = c.args.place in
     let zones = entries c.args.zones.now in
-    let all = subst (λ (zs : List Entry). AllZip States (groups_of zs) sheet.list) (zones_of_one b states.0 zones states.1 read) states.2.records in
+    let all = subst (λ (zs : List ZoneData). AllZip States (groups_of zs) sheet.list) (zones_of_one b states.0 zones states.1 read) states.2.records in
     record {
       names = λ e. absurd (omega (arith, e, is));
       subsets = λ e. (sheet, states, least_as _ _ (link_ends (groups_of zones) sheet.list all place) (end_links (groups_of zones) sheet.list all place) c.first_link.result c.first_link.ensures);

@@ -1,5 +1,5 @@
 use Rattle.std.proofs.Common.{ℕ, ◌<◌, ◌≤◌, length}
-use Rattle.edi_line.specs.Entry.{entries}
+use Rattle.edi_line.specs.ZoneData.{entries}
 use Rattle.edi_line.specs.Zones.{groups_of}
 use Rattle.edi_explain.specs.inner.RowPartners.{IsEarlierRow, PassesRow}
 use Rattle.edi_explain.proofs.RowGroups.{IsLeftAt}

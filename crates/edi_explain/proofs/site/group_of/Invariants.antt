@@ -1,5 +1,5 @@
 use Rattle.std.proofs.Common.{◌≡◌, length, slice_get}
-use Rattle.edi_line.specs.Entry.{entries}
+use Rattle.edi_line.specs.ZoneData.{entries}
 use Rattle.edi_line.specs.Zones.{groups_of}
 use Rattle.edi_explain.proofs.site.group_of.Given as goal
 

@@ -1,5 +1,5 @@
 use Rattle.std.proofs.lemmas.Result.{IfOk-weaker}
-use Rattle.edi_line.specs.Entry.{entries}
+use Rattle.edi_line.specs.ZoneData.{entries}
 use Rattle.edi_explain.specs.inner.Found.{number_of}
 use Rattle.edi_explain.proofs.site.site_at.Goals as goal
 

@@ -1,5 +1,5 @@
 use Rattle.std.proofs.Common.{◌≡◌, false}
-use Rattle.edi_line.specs.Entry.{entries, entry}
+use Rattle.edi_line.specs.ZoneData.{entries, entry}
 use Rattle.edi_record.specs.Records.{is_known}
 use Rattle.edi_explain.proofs.ExtraZonesOf.{extra_told}
 use Rattle.edi_explain.proofs.unknown.is_extra.Goals as goal

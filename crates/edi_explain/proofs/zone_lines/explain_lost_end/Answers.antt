@@ -1,6 +1,6 @@
 use Rattle.std.proofs.Common.{◌≡◌, Bor, List, Option, option_map, subst, inr}
 use Rattle.std.proofs.lemmas.Result.{IfOk-weaker}
-use Rattle.edi_line.specs.Entry.{entries}
+use Rattle.edi_line.specs.ZoneData.{entries}
 use Rattle.edi_line.specs.Zones.{groups_of}
 use Rattle.edi_line.specs.declared.zone.Zone.{Zone}
 use Rattle.edi_explain.specs.AstrayZones.{IsZoneOfSheet}

@@ -1,6 +1,6 @@
 use Rattle.std.proofs.Common.{ℕ, subst, sym}
 use Rattle.std.proofs.lemmas.Result.{IfOk-weaker}
-use Rattle.edi_line.specs.Entry.{entries}
+use Rattle.edi_line.specs.ZoneData.{entries}
 use Rattle.edi_explain.specs.AstrayZones.{IsZoneOfSheet}
 use Rattle.edi_explain.specs.ZoneLines.{IsZoneLine}
 use Rattle.edi_explain.proofs.zone_lines.explain_zone_of_sheet.Goals as goal

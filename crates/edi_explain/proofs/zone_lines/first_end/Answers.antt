@@ -1,5 +1,5 @@
 use Rattle.std.proofs.Common.{option_map}
-use Rattle.edi_line.specs.Entry.{entries}
+use Rattle.edi_line.specs.ZoneData.{entries}
 use Rattle.edi_explain.proofs.ZoneFound.{end_of_earlier, end_of_own}
 use Rattle.edi_explain.proofs.zone_lines.first_end.Goals as goal
 

@@ -1,5 +1,5 @@
 use Rattle.std.proofs.Common.{None, inl, inr, refl, rules}
-use Rattle.edi_line.specs.Entry.{entries, entry}
+use Rattle.edi_line.specs.ZoneData.{entries, entry}
 use Rattle.edi_line.specs.Zones.{groups_of}
 use Rattle.edi_explain.specs.AstrayZones.{IsFirstLostEnd}
 use Rattle.edi_explain.proofs.Straying.{none_of, some_of}

@@ -1,5 +1,5 @@
 use Rattle.std.proofs.Common.{◌≡◌, length}
-use Rattle.edi_line.specs.Entry.{entries}
+use Rattle.edi_line.specs.ZoneData.{entries}
 use Rattle.edi_line.specs.inner.Groups.{charset_in}
 use Rattle.edi_line.proofs.groups.charset_of.Given as goal
 

@@ -1,6 +1,6 @@
 use Rattle.std.proofs.Common.{◌+◌, ◌<◌, ◌^◌, ◌++◌, [], ℕ, None, List, length, arith}
 use Rattle.std.proofs.lemmas.Result.{on_ok_weaker, IfOk-weaker}
-use Rattle.edi_line.specs.Entry.{Entry}
+use Rattle.edi_line.specs.ZoneData.{ZoneData}
 use Rattle.edi_line.specs.Groups.{IsHandedOut}
 use Rattle.edi_line.specs.LineRules.{BreaksLineRule}
 use Rattle.edi_line.specs.Refusal.{IsLeastBroken}
@@ -24,7 +24,7 @@ returns-clause-groups g c =
     let Before = g.O.GroupOut.Holds c.args.out.now in
     let After = g.O.GroupOut.Holds c.read_last.new.out in
     IfOk-weaker c.read_last.result
-    (λ charset. (f : List ℕ) (given : List Entry) → IsAtLines (readings_of f) (readings_of file) given c.new.result None → IsHandedOut f charset (λ groups. Before (groups ++ groups_of given)) After)
+    (λ charset. (f : List ℕ) (given : List ZoneData) → IsAtLines (readings_of f) (readings_of file) given c.new.result None → IsHandedOut f charset (λ groups. Before (groups ++ groups_of given)) After)
     (λ charset. IsHandedOut file charset Before After)
     (λ charset handed. handed_from_none file charset Before After (handed file [] (at_start (readings_of file) c.new.result c.new.ensures)))
     c.read_last.ensures.groups
@@ -38,7 +38,7 @@ pub returns-clause-least : goal.returns-clause-least
 returns-clause-least g c =
     let file = c.args.bytes.now in
     if_err
-    (λ rule place. (f : List ℕ) (given : List Entry) → IsAtLines (readings_of f) (readings_of file) given c.new.result None → IsLeastBroken (BreaksLineRule f) rule place)
+    (λ rule place. (f : List ℕ) (given : List ZoneData) → IsAtLines (readings_of f) (readings_of file) given c.new.result None → IsLeastBroken (BreaksLineRule f) rule place)
     (IsLeastBroken (BreaksLineRule file)) c.read_last.result
     (λ rule place refused. refused file [] (at_start (readings_of file) c.new.result c.new.ensures))
     c.read_last.ensures.least

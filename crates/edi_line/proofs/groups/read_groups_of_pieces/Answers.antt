@@ -2,7 +2,7 @@ use Rattle.std.proofs.Common.{◌≡◌, ◌++◌, ◌∙◌, ◌∷◌, ◌+◌
 use Rattle.std.proofs.lemmas.List.{append-nil, nil_from_length}
 use Rattle.std.proofs.lemmas.Result.{err_from_is_err_and, on_ok_weaker, IfOk-weaker}
 use Rattle.std.specs.Vec.Iter.{into_iter_items}
-use Rattle.edi_line.specs.Entry.{Entry}
+use Rattle.edi_line.specs.ZoneData.{ZoneData}
 use Rattle.edi_line.specs.Groups.{IsHandedOut}
 use Rattle.edi_line.specs.LineRules.{BreaksIn, BreaksLineRule}
 use Rattle.edi_line.specs.Refusal.{IsLeastBroken}
@@ -57,7 +57,7 @@ returns-in_err-reader-clause-least g c =
     ap (λ ps. readings_of (pieces_joined ps last)) c.in-Some.ensures.steps.0 ∙ next_readings piece rest last each ∙ ap (λ b. readings_of b ++ left) (sym c.deref.ensures.value) in
     let went = c.loop-piece.invariant.went in
     rw (p.1, p.2) (if_broken
-    (λ rule place. (ls behind : List Reading) (given : List Entry) → IsAtLines ls (readings_of c.deref.result.now ++ behind) given c.loop-piece.reader c.loop-piece.charset → IsLeastBroken (BreaksIn ls) rule place)
+    (λ rule place. (ls behind : List Reading) (given : List ZoneData) → IsAtLines ls (readings_of c.deref.result.now ++ behind) given c.loop-piece.reader c.loop-piece.charset → IsLeastBroken (BreaksIn ls) rule place)
     (IsLeastBroken (BreaksLineRule file))
     (λ rule place refused. least_said file rule place (refused lines left went.given_now (subst (λ ls. IsAtLines lines ls went.given_now c.loop-piece.reader c.loop-piece.charset) cut went.at)))
     c.in_err-reader.field-0.0 c.in_err-reader.ensures.broken)
@@ -102,7 +102,7 @@ returns-clause-groups g c =
     let Between = g.O.GroupOut.Holds c.loop-piece.out in
     let After = g.O.GroupOut.Holds c.read_last.new.out in
     IfOk-weaker c.read_last.result
-    (λ charset. (f : List ℕ) (given : List Entry) → IsAtLines (readings_of f) (readings_of c.deref-2.result.now) given c.loop-piece.reader c.loop-piece.charset → IsHandedOut f charset (λ groups. Between (groups ++ groups_of given)) After)
+    (λ charset. (f : List ℕ) (given : List ZoneData) → IsAtLines (readings_of f) (readings_of c.deref-2.result.now) given c.loop-piece.reader c.loop-piece.charset → IsHandedOut f charset (λ groups. Between (groups ++ groups_of given)) After)
     (λ charset. IsHandedOut file charset Before After)
     (λ charset handed. handed_by file charset Before (λ groups. Between (groups ++ groups_of went.given_now)) After (λ groups before. went.handed groups (subst Before (sym (append-nil groups)) before)) (handed file went.given_now at))
     c.read_last.ensures.groups
@@ -126,7 +126,7 @@ returns-clause-least g c =
     ap (λ ps. readings_of (pieces_joined ps last)) none ∙ ap readings_of (sym c.deref-2.ensures.value) in
     let went = c.loop-piece.invariant.went in
     if_err
-    (λ rule place. (f : List ℕ) (given : List Entry) → IsAtLines (readings_of f) (readings_of c.deref-2.result.now) given c.loop-piece.reader c.loop-piece.charset → IsLeastBroken (BreaksLineRule f) rule place)
+    (λ rule place. (f : List ℕ) (given : List ZoneData) → IsAtLines (readings_of f) (readings_of c.deref-2.result.now) given c.loop-piece.reader c.loop-piece.charset → IsLeastBroken (BreaksLineRule f) rule place)
     (IsLeastBroken (BreaksLineRule file)) c.read_last.result
     (λ rule place refused. refused file went.given_now (subst (λ ls. IsAtLines (readings_of file) ls went.given_now c.loop-piece.reader c.loop-piece.charset) left went.at))
     c.read_last.ensures.least

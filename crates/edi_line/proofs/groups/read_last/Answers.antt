@@ -1,7 +1,7 @@
 use Rattle.std.proofs.Common.{◌∙◌, ◌++◌, [], ℕ, List, sym, ap, subst, arith}
 use Rattle.std.proofs.lemmas.List.{append-nil}
 use Rattle.std.proofs.lemmas.Result.{err_from_is_err_and}
-use Rattle.edi_line.specs.Entry.{Entry, entries}
+use Rattle.edi_line.specs.ZoneData.{ZoneData, entries}
 use Rattle.edi_line.specs.LineRules.{BreaksIn, BreaksLineRule}
 use Rattle.edi_line.specs.Refusal.{IsLeastBroken}
 use Rattle.edi_line.specs.Spelling.{Reading}
@@ -24,8 +24,8 @@ returns-in_err-reader-clause-least g c =
     let p = err_from_is_err_and c.from_residual.result c.from_residual.ensures.1 in
     let all = readings_of c.args.bytes.now in
     rw (p.1, p.2) (if_broken
-    (λ rule place. (lines left : List Reading) (given : List Entry) → IsAtLines lines (all ++ left) given c.args.reader c.args.charset → IsLeastBroken (BreaksIn lines) rule place)
-    (λ rule place. (file : List ℕ) (given : List Entry) → IsAtLines (readings_of file) all given c.args.reader c.args.charset → IsLeastBroken (BreaksLineRule file) rule place)
+    (λ rule place. (lines left : List Reading) (given : List ZoneData) → IsAtLines lines (all ++ left) given c.args.reader c.args.charset → IsLeastBroken (BreaksIn lines) rule place)
+    (λ rule place. (file : List ℕ) (given : List ZoneData) → IsAtLines (readings_of file) all given c.args.reader c.args.charset → IsLeastBroken (BreaksLineRule file) rule place)
     (λ rule place refused file given at. least_said file rule place (refused (readings_of file) [] given (subst (λ ls. IsAtLines (readings_of file) ls given c.args.reader c.args.charset) (sym (append-nil all)) at)))
     c.in_err-reader.field-0.0 c.in_err-reader.ensures.broken)
 
@@ -42,7 +42,7 @@ returns-in_err-zones-clause-least g c =
     let all = readings_of c.args.bytes.now in
     let reader = c.in_ok-reader.reader in
     rw (p.1, p.2) (if_broken (EndFault reader)
-    (λ rule place. (file : List ℕ) (given : List Entry) → IsAtLines (readings_of file) all given c.args.reader c.args.charset → IsLeastBroken (BreaksLineRule file) rule place)
+    (λ rule place. (file : List ℕ) (given : List ZoneData) → IsAtLines (readings_of file) all given c.args.reader c.args.charset → IsLeastBroken (BreaksLineRule file) rule place)
     (λ rule place lacks file given at.
     (let went = c.in_ok-reader.ensures.ok (readings_of file) [] given (subst (λ ls. IsAtLines (readings_of file) ls given c.args.reader c.args.charset) (sym (append-nil all)) at) in
     end_refused file went.given_now reader c.read_lines.new.charset rule place lacks went.at))

@@ -3,7 +3,7 @@ use Rattle.std.specs.List.{list_any}
 use Rattle.std.proofs.lemmas.Bool.{eqb-true}
 use Rattle.std.proofs.lemmas.List.{nil_from_length}
 use Rattle.std.proofs.lemmas.Result.{err_from_is_err_and}
-use Rattle.edi_line.specs.Entry.{Entry, entries}
+use Rattle.edi_line.specs.ZoneData.{ZoneData, entries}
 use Rattle.edi_line.specs.LineRules.{BreaksIn}
 use Rattle.edi_line.specs.Refusal.{IsLeastBroken}
 use Rattle.edi_line.specs.Spelling.{Reading}
@@ -26,7 +26,7 @@ returns-in_err-take_line-clause-broken g c =
     let step : readings_of c.loop-rest.rest.now ≡ line ∷ after =
     readings_step c.loop-rest.rest.now c.first_line.result.0.now c.first_line.result.1.now c.first_line.ensures.lines ∙ ap (λ x. reading_of x ∷ after) (sym c.content.ensures) in
     rw (p.1, p.2) (if_broken (Refuses old line)
-    (λ rule place. (lines left : List Reading) (given : List Entry) → IsAtLines lines (readings_of c.args.bytes.now ++ left) given c.args.reader c.args.charset.now → IsLeastBroken (BreaksIn lines) rule place)
+    (λ rule place. (lines left : List Reading) (given : List ZoneData) → IsAtLines lines (readings_of c.args.bytes.now ++ left) given c.args.reader c.args.charset.now → IsLeastBroken (BreaksIn lines) rule place)
     (λ rule place refuses lines left given at.
     (let went = c.loop-rest.invariant.went lines left given at in
     line_refused lines (after ++ left) line went.given_now old c.loop-rest.charset rule place refuses (subst (λ ls. IsAtLines lines (ls ++ left) went.given_now old c.loop-rest.charset) step went.at)))
@@ -55,7 +55,7 @@ loop-rest-preserved-in_ok-hand_on g c =
     let After = g.O.GroupOut.Holds c.hand_on.new.out in
     let step : readings_of c.loop-rest.rest.now ≡ line ∷ after =
     readings_step c.loop-rest.rest.now c.first_line.result.0.now c.first_line.result.1.now c.first_line.ensures.lines ∙ ap (λ x. reading_of x ∷ after) (sym c.content.ensures) in
-    let more : (lines left : List Reading) (given : List Entry) → IsAtLines lines (readings_of c.loop-rest.rest.now ++ left) given old charset → WentOn lines (after ++ left) given new charset_now Before After =
+    let more : (lines left : List Reading) (given : List ZoneData) → IsAtLines lines (readings_of c.loop-rest.rest.now ++ left) given old charset → WentOn lines (after ++ left) given new charset_now Before After =
     (λ lines left given at. group_gone lines (after ++ left) line given (entries c.done.result.now) old c.take_line.new.self new charset charset_now Before After
     (sym c.has_group.ensures ∙ c.if-has_group.true) c.done.ensures c.in_ok-hand_on.ensures.charset c.in_ok-hand_on.ensures.groups c.let_go.ensures.line c.let_go.ensures.order c.let_go.ensures.zones
     c.in_ok-take_line.ensures.ok (subst (λ ls. IsAtLines lines (ls ++ left) given old charset) step at)) in
@@ -76,7 +76,7 @@ loop-rest-preserved g c =
     let Holds = g.O.GroupOut.Holds c.loop-rest.out in
     let step : readings_of c.loop-rest.rest.now ≡ line ∷ after =
     readings_step c.loop-rest.rest.now c.first_line.result.0.now c.first_line.result.1.now c.first_line.ensures.lines ∙ ap (λ x. reading_of x ∷ after) (sym c.content.ensures) in
-    let more : (lines left : List Reading) (given : List Entry) → IsAtLines lines (readings_of c.loop-rest.rest.now ++ left) given old charset → IsAtLines lines (after ++ left) given new charset =
+    let more : (lines left : List Reading) (given : List ZoneData) → IsAtLines lines (readings_of c.loop-rest.rest.now ++ left) given old charset → IsAtLines lines (after ++ left) given new charset =
     (λ lines left given at. line_held lines (after ++ left) line given old new charset
     (sym c.has_group.ensures ∙ c.if-has_group.false) c.in_ok-take_line.ensures.ok (subst (λ ls. IsAtLines lines (ls ++ left) given old charset) step at)) in
     let here = c.loop-rest.invariant.at in

@@ -1,7 +1,7 @@
 use Rattle.std.proofs.Common.{◌∙◌, subst}
 use Rattle.edi_record.specs.declared.record.Kind.TheVariants.{Lnk}
 use Rattle.edi_plan.specs.Joined.{IsJoined}
-use Rattle.edi_plan.specs.Plans.{Drawing}
+use Rattle.edi_plan.specs.Plans.{PlanData}
 use Rattle.edi_plan.specs.Whole.{IsWholePlan}
 use Rattle.edi_matching.specs.Differences.{MatchesPartners}
 use Rattle.edi_matching.specs.Matchings.{MatchingHolds}
@@ -19,8 +19,8 @@ grown-requires c =
       second = accepted_classed s c.args.second.now c.keeps.ensures c.requires.second;
       accepted = c.requires.first;
       other_accepted = c.requires.second;
-      holds = subst (λ (x : Drawing). MatchingHolds s x c.args.second.now m) c.sound.ensures
-          (subst (λ (y : Drawing). MatchingHolds s c.sound.result.now y m) c.sound-2.ensures (c.in_ok-matching.ensures.holds s));
+      holds = subst (λ (x : PlanData). MatchingHolds s x c.args.second.now m) c.sound.ensures
+          (subst (λ (y : PlanData). MatchingHolds s c.sound.result.now y m) c.sound-2.ensures (c.in_ok-matching.ensures.holds s));
     }
 
 pub with_all_links-requires-clause-classes : goal.with_all_links-requires-clause-classes
@@ -30,8 +30,8 @@ pub returns-clause-partners : goal.returns-clause-partners
 returns-clause-partners c =
     let m = c.in_ok-matching.matching in
     let matched =
-    subst (λ (x : Drawing). MatchesPartners x c.args.second.now m) c.sound.ensures
-    (subst (λ (y : Drawing). MatchesPartners c.sound.result.now y m) c.sound-2.ensures c.in_ok-matching.ensures.partners) in
+    subst (λ (x : PlanData). MatchesPartners x c.args.second.now m) c.sound.ensures
+    (subst (λ (y : PlanData). MatchesPartners c.sound.result.now y m) c.sound-2.ensures c.in_ok-matching.ensures.partners) in
     let more : MatchesPartners c.args.first.now c.args.second.now c.in_ok-faces.faces = λ i j t both. c.in_ok-faces.ensures.keeps i (c.in_ok-more.ensures.keeps i (matched i j t both)) in
     partners_kept c.args.first.now c.args.second.now c.in_ok-faces.faces more c.with_all_links.result
     (matched_kept Lnk c.args.first.now c.in_ok-faces.faces c.with_all_links.result c.with_all_links.ensures.adds)

@@ -1,5 +1,5 @@
 use Rattle.std.proofs.Common.{◌∙◌, ◌≡◌, subst, sym}
-use Rattle.edi_plan.specs.Plans.{Drawing}
+use Rattle.edi_plan.specs.Plans.{PlanData}
 use Rattle.edi_matching.specs.Differences.{MatchesBeside}
 use Rattle.edi_matching.specs.Matchings.{MatchingHolds}
 use Rattle.edi_matching.specs.declared.matching.Matching.{Matching}
@@ -11,8 +11,8 @@ with_faces-requires-clause-holds c =
     let first = c.plan-plan.ensures.plan ∙ c.sound.ensures in
     let second = c.plan-other.ensures.plan ∙ c.sound-2.ensures in
     let same : c.args.matching ≡ record { to = c.as_slice-to.result.now; turned = c.as_slice.result.now } = λ i. record { to = sym c.as_slice-to.ensures i; turned = sym c.as_slice.ensures i } in
-    subst (λ (p : Drawing). MatchingHolds s p c.plan-other.result.now (record { to = c.as_slice-to.result.now; turned = c.as_slice.result.now })) (sym first)
-    (subst (λ (q : Drawing). MatchingHolds s c.args.first.now q (record { to = c.as_slice-to.result.now; turned = c.as_slice.result.now })) (sym second)
+    subst (λ (p : PlanData). MatchingHolds s p c.plan-other.result.now (record { to = c.as_slice-to.result.now; turned = c.as_slice.result.now })) (sym first)
+    (subst (λ (q : PlanData). MatchingHolds s c.args.first.now q (record { to = c.as_slice-to.result.now; turned = c.as_slice.result.now })) (sym second)
     (subst (λ (m : Matching). MatchingHolds s c.args.first.now c.args.second.now m) same c.requires.holds))
 
 pub returns-clause-faces : goal.returns-clause-faces
@@ -24,5 +24,5 @@ returns-clause-faces c =
     let same : before ≡ record { to = c.from_vec.result; turned = c.into_turned.result } =
     λ i. record { to = sym c.from_vec.ensures i; turned = (c.as_slice.ensures ∙ sym c.into_turned.ensures) i } in
     subst (λ (m : Matching). MatchesBeside c.args.role s c.args.first.now c.args.second.now m) same
-    (subst (λ (q : Drawing). MatchesBeside c.args.role s c.args.first.now q before) second
-    (subst (λ (p : Drawing). MatchesBeside c.args.role s p c.plan-other.result.now before) first c.in_ok-to.ensures.faces))
+    (subst (λ (q : PlanData). MatchesBeside c.args.role s c.args.first.now q before) second
+    (subst (λ (p : PlanData). MatchesBeside c.args.role s p c.plan-other.result.now before) first c.in_ok-to.ensures.faces))

@@ -1,6 +1,6 @@
 use Rattle.std.proofs.Common.{◌∙◌, ◌≡◌, subst, sym}
 use Rattle.edi_record.specs.declared.record.Kind.TheVariants.{Lnk}
-use Rattle.edi_plan.specs.Plans.{Drawing}
+use Rattle.edi_plan.specs.Plans.{PlanData}
 use Rattle.edi_matching.specs.Differences.{MatchesLinks}
 use Rattle.edi_matching.specs.Matchings.{MatchingHolds}
 use Rattle.edi_matching.specs.declared.matching.Matching.{Matching}
@@ -13,8 +13,8 @@ with_links-requires-clause-holds c =
     let first = c.plan-plan.ensures.plan ∙ c.sound.ensures in
     let second = c.plan-other.ensures.plan ∙ c.sound-2.ensures in
     let same : c.args.matching ≡ record { to = c.as_slice-to.result.now; turned = c.as_slice.result.now } = λ i. record { to = sym c.as_slice-to.ensures i; turned = sym c.as_slice.ensures i } in
-    subst (λ (p : Drawing). MatchingHolds s p c.plan-other.result.now (record { to = c.as_slice-to.result.now; turned = c.as_slice.result.now })) (sym first)
-    (subst (λ (q : Drawing). MatchingHolds s c.args.first.now q (record { to = c.as_slice-to.result.now; turned = c.as_slice.result.now })) (sym second)
+    subst (λ (p : PlanData). MatchingHolds s p c.plan-other.result.now (record { to = c.as_slice-to.result.now; turned = c.as_slice.result.now })) (sym first)
+    (subst (λ (q : PlanData). MatchingHolds s c.args.first.now q (record { to = c.as_slice-to.result.now; turned = c.as_slice.result.now })) (sym second)
     (subst (λ (m : Matching). MatchingHolds s c.args.first.now c.args.second.now m) same c.requires.holds))
 
 pub returns-clause-links : goal.returns-clause-links
@@ -26,8 +26,8 @@ returns-clause-links c =
     let same : before ≡ record { to = c.from_vec.result; turned = c.into_turned.result } =
     λ i. record { to = sym c.from_vec.ensures i; turned = (c.as_slice.ensures ∙ sym c.into_turned.ensures) i } in
     subst (λ (m : Matching). MatchesLinks s c.args.first.now c.args.second.now m) same
-    (subst (λ (q : Drawing). MatchesLinks s c.args.first.now q before) second
-    (subst (λ (p : Drawing). MatchesLinks s p c.plan-other.result.now before) first c.in_ok-to.ensures.links))
+    (subst (λ (q : PlanData). MatchesLinks s c.args.first.now q before) second
+    (subst (λ (p : PlanData). MatchesLinks s p c.plan-other.result.now before) first c.in_ok-to.ensures.links))
 
 pub returns-clause-adds : goal.returns-clause-adds
 returns-clause-adds c =
@@ -39,4 +39,4 @@ returns-clause-adds c =
     let first = c.plan-plan.ensures.plan ∙ c.sound.ensures in
     subst (λ (m : Matching). AddsOnly Lnk c.args.first.now c.args.matching m) same
     (subst (λ (m : Matching). AddsOnly Lnk c.args.first.now m after) was
-    (subst (λ (p : Drawing). AddsOnly Lnk p before after) first c.in_ok-to.ensures.adds))
+    (subst (λ (p : PlanData). AddsOnly Lnk p before after) first c.in_ok-to.ensures.adds))

@@ -1,12 +1,12 @@
 use Rattle.std.proofs.Common.{◌≡◌, ◌<◌, ◌≤◌, ℕ, List, ap, sym, length, subst, get_or}
 use Rattle.edi_record.specs.declared.record.Kind.TheVariants.{Par}
 use Rattle.edi_plan.specs.Places.{places_of}
-use Rattle.edi_plan.specs.Plans.{Drawing, IsPlace}
+use Rattle.edi_plan.specs.Plans.{PlanData, IsPlace}
 use Rattle.edi_plan.proofs.PlaceLemmas.{place_there}
 use Rattle.edi_rank.proofs.SidesTaken.{arc_taken, all_taken}
 use Rattle.edi_rank.proofs.face_layer.least_sides.Goals as goal
 
-arc_place : (p : Drawing) (arcs : List ℕ) (i : ℕ) → arcs ≡ places_of Par p → i < length arcs → IsPlace p (get_or arcs i 0)
+arc_place : (p : PlanData) (arcs : List ℕ) (i : ℕ) → arcs ≡ places_of Par p → i < length arcs → IsPlace p (get_or arcs i 0)
 arc_place p arcs i e h = subst (λ ks. IsPlace p (get_or ks i 0)) (sym e) (place_there Par p i (subst (λ ks. i < length ks) e h))
 
 pub take_side-requires-clause-place : goal.take_side-requires-clause-place

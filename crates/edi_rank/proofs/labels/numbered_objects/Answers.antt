@@ -1,6 +1,6 @@
 use Rattle.std.proofs.Common.{◌≡◌, ◌≤◌, ◌∙◌, ℕ, List, sym, subst, ap, get_or}
 use Rattle.std.proofs.lemmas.Result.{IfOk-weaker}
-use Rattle.edi_plan.specs.Plans.{Drawing, IsPlace, record_at, others_of}
+use Rattle.edi_plan.specs.Plans.{PlanData, IsPlace, record_at, others_of}
 use Rattle.edi_rank.specs.EndOrder.{OthersInOrder}
 use Rattle.edi_rank.specs.Laws.{TellsApart}
 use Rattle.edi_rank.specs.inner.Layers.{IsFaceRanking}
@@ -11,13 +11,13 @@ use Rattle.edi_rank.proofs.LowerNumbers.{lower_apart, objects_zero}
 use Rattle.edi_rank.proofs.labels.numbered_objects.Goals as goal
 
 -- the other ends of each record are in order where one of them at most is an object
-abbrev LowerInOrder : Drawing → List ℕ → List (List ℕ) → Type 0
+abbrev LowerInOrder : PlanData → List ℕ → List (List ℕ) → Type 0
 LowerInOrder q numbers orders = (k : ℕ) → IsPlace q k → object_count q (others_of (record_at q k)) ≤ 1 → OthersInOrder q (λ j. get_or numbers j 0) orders k
 
 pub numbered-requires-clause-objects : goal.numbered-requires-clause-objects
 numbered-requires-clause-objects c =
     let lower = c.in_ok-lower.lower in
-    objects_zero c.plan-plan.result.now lower.nodes.now lower.arcs.now lower.faces c.in_ok-unnamed.unnamed.items c.in_ok-unnamed.ensures.ranked
+    objects_zero c.plan-plan.result.now lower.nodes.now lower.arcs.now lower.faces c.in_ok-below_objects.below_objects.items c.in_ok-below_objects.ensures.ranked
 
 pub numbered-requires-clause-orders : goal.numbered-requires-clause-orders
 numbered-requires-clause-orders c =
@@ -26,7 +26,7 @@ numbered-requires-clause-orders c =
 -- the layer is of the plan and these numbers
 pub returns-clause-plan : goal.returns-clause-plan
 returns-clause-plan c =
-    let made : ObjectSource = record { plan = c.plan-plan.result.now; numbers = c.in_ok-unnamed.unnamed.items } in
+    let made : ObjectSource = record { plan = c.plan-plan.result.now; numbers = c.in_ok-below_objects.below_objects.items } in
     IfOk-weaker c.numbered.result (λ (l : ObjectSource). l ≡ made) (λ (l : ObjectSource). l.plan ≡ c.args.sound.now) (λ l e. ap (λ (k : ObjectSource). k.plan) e ∙ c.plan-plan.ensures.plan) c.numbered.ensures
 
 pub returns-clause-apart : goal.returns-clause-apart
@@ -34,11 +34,11 @@ returns-clause-apart c =
     let p = c.plan-plan.result.now in
     let is = c.plan-plan.ensures.plan in
     let lower = c.in_ok-lower.lower in
-    let unnamed = c.in_ok-unnamed.unnamed.items in
-    let made : ObjectSource = record { plan = p; numbers = unnamed } in
-    let apart : TellsApart p (λ k. get_or unnamed k 0) = lower_apart p lower.nodes.now lower.arcs.now lower.faces unnamed
+    let below_objects = c.in_ok-below_objects.below_objects.items in
+    let made : ObjectSource = record { plan = p; numbers = below_objects } in
+    let apart : TellsApart p (λ k. get_or below_objects k 0) = lower_apart p lower.nodes.now lower.arcs.now lower.faces below_objects
     (subst (λ q. IsNodeRanking q lower.nodes.now) (sym is) c.in_ok-lower.ensures.nodes)
     (subst (λ q. IsForwardRanking q lower.arcs.now) (sym is) c.in_ok-lower.ensures.arcs)
-    (subst (λ q. IsFaceRanking q lower.arcs.now lower.faces) (sym is) c.in_ok-lower.ensures.faces) c.in_ok-unnamed.ensures.ranked in
+    (subst (λ q. IsFaceRanking q lower.arcs.now lower.faces) (sym is) c.in_ok-lower.ensures.faces) c.in_ok-below_objects.ensures.ranked in
     IfOk-weaker c.numbered.result (λ (l : ObjectSource). l ≡ made) (λ (l : ObjectSource). TellsApart c.args.sound.now (λ k. get_or l.numbers k 0))
-    (λ l e. subst (λ (m : ObjectSource). TellsApart c.args.sound.now (λ k. get_or m.numbers k 0)) (sym e) (subst (λ q. TellsApart q (λ k. get_or unnamed k 0)) is apart)) c.numbered.ensures
+    (λ l e. subst (λ (m : ObjectSource). TellsApart c.args.sound.now (λ k. get_or m.numbers k 0)) (sym e) (subst (λ q. TellsApart q (λ k. get_or below_objects k 0)) is apart)) c.numbered.ensures

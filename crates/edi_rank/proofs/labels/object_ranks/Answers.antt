@@ -2,7 +2,7 @@ use Rattle.std.proofs.Common.{◌≡◌, ◌∙◌, ◌+◌, ℕ, List, add-one,
 use Rattle.edi_line.specs.Refusal.{IsLeastBroken}
 use Rattle.edi_record.specs.declared.record.Kind.TheVariants.{Fea}
 use Rattle.edi_plan.specs.Places.{places_of}
-use Rattle.edi_plan.specs.Plans.{Drawing}
+use Rattle.edi_plan.specs.Plans.{PlanData}
 use Rattle.edi_topo.specs.Ranking.{IsTie, IsRanking}
 use Rattle.edi_topo.specs.declared.fault.TieFault.TheVariants.{Tie}
 use Rattle.edi_rank.specs.EqualObjects.{BreaksObjectRule}
@@ -20,7 +20,7 @@ ranking l q numbers e h = ranking_by objects.cmp object_key_cmp object_order (λ
     (subst (λ (r : ObjectSource). IsRanking objects.cmp (λ m. object_key_at r (get_or (places_of Fea r.plan) m 0)) (length (places_of Fea r.plan)) numbers) e h)
 
 -- the layer is of this plan
-of_plan : (l : ObjectSource) (p : Drawing) → l.plan ≡ p → l ≡ record { plan = p; numbers = l.numbers }
+of_plan : (l : ObjectSource) (p : PlanData) → l.plan ≡ p → l ≡ record { plan = p; numbers = l.numbers }
 of_plan l p e = λ i. record { plan = e i; numbers = l.numbers }
 
 pub returns-in-Ok-clause-ranks : goal.returns-in-Ok-clause-ranks

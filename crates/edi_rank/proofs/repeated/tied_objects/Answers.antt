@@ -2,7 +2,7 @@ use Rattle.std.proofs.Common.{◌≡◌, ◌∙◌, ◌+◌, ℕ, Bool, List, sy
 use Rattle.std.proofs.lemmas.Result.{IfOk-weaker}
 use Rattle.edi_record.specs.declared.record.Kind.TheVariants.{Fea}
 use Rattle.edi_plan.specs.Places.{places_of}
-use Rattle.edi_plan.specs.Plans.{Drawing}
+use Rattle.edi_plan.specs.Plans.{PlanData}
 use Rattle.edi_topo.specs.Marks.{AreMarksOf, IsPlaceOfMark}
 use Rattle.edi_topo.specs.Ranking.{Ties}
 use Rattle.edi_topo.proofs.MarksPlaced.{places_within}
@@ -25,7 +25,7 @@ pub marks_by_place-requires-clause-within : goal.marks_by_place-requires-clause-
 marks_by_place-requires-clause-within c = places_within Fea c.plan-plan.result.now c.places.result.now c.len.result c.places.ensures c.len.ensures
 
 -- the layer is of this plan
-of_plan : (l : ObjectSource) (p : Drawing) → l.plan ≡ p → l ≡ record { plan = p; numbers = l.numbers }
+of_plan : (l : ObjectSource) (p : PlanData) → l.plan ≡ p → l ≡ record { plan = p; numbers = l.numbers }
 of_plan l p e = λ i. record { plan = e i; numbers = l.numbers }
 
 abbrev key_at : ObjectSource → ℕ → ObjectKey
@@ -44,4 +44,4 @@ returns c =
     IfOk-weaker c.marks_by_place.result (λ by_place. AreMarksOf c.len.result (IsPlaceOfMark c.places.result.now c.deref.result.now) by_place.items)
     (λ by_place. AreMarksOf (length p.list) (λ k. BreaksObjectRule p 501 (k + 1)) by_place.items)
     (λ by_place placed. marks_break p c.plan-plan.ensures.whole (λ k. get_or l.numbers k 0) c.requires.apart marks c.deref.result.now by_place.items c.places.result.now c.len.result
-    c.deref.ensures.value (c.places.ensures ∙ ap (places_of Fea) c.plan-plan.ensures.plan) (c.len.ensures ∙ ap (λ (q : Drawing). length q.list) c.plan-plan.ensures.plan) by_written placed) c.marks_by_place.ensures
+    c.deref.ensures.value (c.places.ensures ∙ ap (places_of Fea) c.plan-plan.ensures.plan) (c.len.ensures ∙ ap (λ (q : PlanData). length q.list) c.plan-plan.ensures.plan) by_written placed) c.marks_by_place.ensures

@@ -1,4 +1,4 @@
-use Rattle.edi_line.specs.Entry.{entries}
+use Rattle.edi_line.specs.ZoneData.{entries}
 use Rattle.edi_record.specs.RecordRules.{has_no_identifier}
 use Rattle.edi_record.specs.inner.RecordRules.{has_no_kind, has_no_class, has_bad_attribute, has_wrong_count, has_bad_point, has_bad_end, has_unknown_pointer}
 use Rattle.edi_line.proofs.AllBroken.{put}

@@ -1,5 +1,5 @@
 use Rattle.std.proofs.Common.{sym, ◌∙◌}
-use Rattle.edi_line.specs.Entry.{entry, entries}
+use Rattle.edi_line.specs.ZoneData.{entry, entries}
 use Rattle.edi_record.proofs.AttributesRead.{cut_first}
 use Rattle.edi_record.proofs.GroupRules.{sense_later}
 use Rattle.edi_record.proofs.group_rules.has_stray_sense.Goals as goal

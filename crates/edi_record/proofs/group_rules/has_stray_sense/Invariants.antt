@@ -1,6 +1,6 @@
 use Rattle.std.proofs.Common.{◌≡◌, length, codes}
 use Rattle.std.specs.List.{list_any, before_first}
-use Rattle.edi_line.specs.Entry.{entries, has_code}
+use Rattle.edi_line.specs.ZoneData.{entries, has_code}
 use Rattle.edi_record.specs.Records.{points_at}
 use Rattle.edi_record.proofs.group_rules.has_stray_sense.Given as goal
 

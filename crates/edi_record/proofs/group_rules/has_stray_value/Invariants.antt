@@ -1,6 +1,6 @@
 use Rattle.std.proofs.Common.{◌≡◌, length, false}
 use Rattle.std.specs.List.{list_any}
-use Rattle.edi_line.specs.Entry.{entries}
+use Rattle.edi_line.specs.ZoneData.{entries}
 use Rattle.edi_record.specs.inner.Records.{placed}
 use Rattle.edi_record.specs.inner.Stored.{is_stray}
 use Rattle.edi_record.proofs.group_rules.has_stray_value.Given as goal

@@ -1,6 +1,6 @@
 use Rattle.std.proofs.Common.{sym, ap, ◌∙◌}
 use Rattle.std.specs.List.{list_any}
-use Rattle.edi_line.specs.Entry.{entry}
+use Rattle.edi_line.specs.ZoneData.{entry}
 use Rattle.edi_record.specs.inner.Records.{placed}
 use Rattle.edi_record.specs.inner.RecordRules.{is_unknown_pointer}
 use Rattle.edi_record.proofs.AttributesRead.{cut_first, nothing_left}

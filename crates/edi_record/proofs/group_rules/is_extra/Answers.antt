@@ -1,5 +1,5 @@
 use Rattle.std.proofs.Common.{sym}
-use Rattle.edi_line.specs.Entry.{entry}
+use Rattle.edi_line.specs.ZoneData.{entry}
 use Rattle.edi_record.proofs.GroupRules.{no_extra}
 use Rattle.edi_record.proofs.group_rules.is_extra.Goals as goal
 

@@ -1,5 +1,5 @@
 use Rattle.std.proofs.Common.{◌≡◌, length}
-use Rattle.edi_line.specs.Entry.{entries, has_code}
+use Rattle.edi_line.specs.ZoneData.{entries, has_code}
 use Rattle.edi_record.specs.inner.GroupRules.{closes_by, repeats_from}
 use Rattle.edi_record.specs.inner.RecordRules.{repeats}
 use Rattle.edi_record.proofs.group_rules.repeats.Given as goal

@@ -1,5 +1,5 @@
 use Rattle.std.proofs.Common.{◌≡◌, length}
-use Rattle.edi_line.specs.Entry.{entries}
+use Rattle.edi_line.specs.ZoneData.{entries}
 use Rattle.edi_record.specs.Records.{values}
 use Rattle.edi_record.specs.inner.RecordRules.{some_no_pointer}
 use Rattle.edi_record.proofs.group_rules.some_no_pointer.Given as goal

@@ -1,6 +1,6 @@
 use Rattle.std.proofs.Common.{◌≡◌, length, is_none}
 use Rattle.std.specs.List.{list_any}
-use Rattle.edi_line.specs.Entry.{entries}
+use Rattle.edi_line.specs.ZoneData.{entries}
 use Rattle.edi_record.specs.Records.{values}
 use Rattle.edi_record.specs.inner.Texts.{point}
 use Rattle.edi_record.proofs.group_rules.some_no_position.Given as goal

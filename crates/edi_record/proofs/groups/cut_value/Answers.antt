@@ -1,5 +1,5 @@
 use Rattle.std.proofs.Common.{◌∙◌, ap, sym}
-use Rattle.edi_line.specs.Entry.{entry}
+use Rattle.edi_line.specs.ZoneData.{entry}
 use Rattle.edi_record.specs.Records.{values}
 use Rattle.edi_record.proofs.AttributesRead.{cut_first, nothing_left}
 use Rattle.edi_record.proofs.GroupCuts.{value_here, value_skipped}

@@ -1,6 +1,6 @@
 use Rattle.std.proofs.Common.{◌≡◌, ◌∙◌, ◌+◌, length, drop, sym, ap, arith, length-drop}
 use Rattle.std.proofs.lemmas.List.{drop-drop}
-use Rattle.edi_line.specs.Entry.{entry, entries}
+use Rattle.edi_line.specs.ZoneData.{entry, entries}
 use Rattle.edi_line.specs.Zones.{groups_of}
 use Rattle.edi_record.specs.inner.RecordParts.{whole}
 use Rattle.edi_record.proofs.ListRead.{one_more, moved, refusal_at, all_unbroken, few_in_all}

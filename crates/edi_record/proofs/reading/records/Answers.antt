@@ -1,5 +1,5 @@
 use Rattle.std.proofs.lemmas.Result.{err_from_is_err_and}
-use Rattle.edi_line.specs.Entry.{entries}
+use Rattle.edi_line.specs.ZoneData.{entries}
 use Rattle.edi_line.specs.Zones.{groups_of}
 use Rattle.edi_record.proofs.RulesSaid.{refusal_said, records_unbroken}
 use Rattle.edi_record.proofs.StatesSaid.{all_said}

@@ -1,6 +1,6 @@
 use Rattle.std.proofs.Common.{◌≡◌, ◌∙◌, ◌∷◌, [], ◌+◌, drop, inl, refl, sym, ap, subst, codes, arith, Some}
 use Rattle.std.proofs.lemmas.Slice.Eq.{bytes_eq-Decides}
-use Rattle.edi_line.specs.Entry.{entry, entries}
+use Rattle.edi_line.specs.ZoneData.{entry, entries}
 use Rattle.edi_line.specs.Zones.{before_end, groups_of}
 use Rattle.edi_record.specs.inner.RecordRules.{kind_in}
 use Rattle.edi_record.specs.inner.RecordRefusal.{IsGroupRefusal}

@@ -1,5 +1,5 @@
 use Rattle.std.proofs.Common.{◌≡◌, ◌∷◌, ◌≤◌, drop}
-use Rattle.edi_line.specs.Entry.{entry, entries}
+use Rattle.edi_line.specs.ZoneData.{entry, entries}
 use Rattle.edi_line.specs.Zones.{before_end, groups_of}
 use Rattle.edi_record.specs.inner.Stored.{StoresRecord, kept}
 use Rattle.edi_record.proofs.stating.record_of.Given as goal

@@ -1,6 +1,6 @@
 use Rattle.std.proofs.Common.{List, ℕ, Option, Some, None, MatchOption, subst}
 use Rattle.edi_schema.specs.Classes.{Classes}
-use Rattle.edi_plan.specs.Plans.{Drawing}
+use Rattle.edi_plan.specs.Plans.{PlanData}
 use Rattle.edi_rank.specs.Same.{Same}
 use Rattle.edi_compare.specs.Pairings.{PairingCarries}
 use Rattle.edi_compare.specs.PlanOfFile.{IsPlanOfFile, StateSame}
@@ -10,7 +10,7 @@ use Rattle.uses.specs.Callers.{SomePairing}
 use Rattle.uses.proofs.sheets.checked_pairing.Goals as goal
 
 -- a file has one plan, so what is known of the plans is known of the files
-of_files : (s : Classes) (a b : List ℕ) (p q : Drawing) → IsPlanOfFile s a p → IsPlanOfFile s b q → (found : Option Pairing)
+of_files : (s : Classes) (a b : List ℕ) (p q : PlanData) → IsPlanOfFile s a p → IsPlanOfFile s b q → (found : Option Pairing)
     → MatchOption found (¬ (Same s p q)) (PairingCarries s p q) → MatchOption found (¬ (StateSame s a b)) (SomePairing s a b)
 of_files s a b p q plan other (Some pairing) carries = (p, q, plan, other, carries)
 of_files s a b p q plan other None not = λ same.

@@ -1,5 +1,5 @@
 use Rattle.std.proofs.Common.{◌++◌, ℕ, List, codes, take}
-use Rattle.edi_line.specs.Entry.{entries}
+use Rattle.edi_line.specs.ZoneData.{entries}
 use Rattle.edi_record.specs.Records.{values}
 use Rattle.edi_explain.specs.inner.Elsewhere.{AreEnds}
 use Rattle.edi_explain.proofs.elsewhere.LinkEnds.take_ends.Given as goal

@@ -1,5 +1,5 @@
 use Rattle.std.proofs.Common.{true, inl, inr, refl}
-use Rattle.edi_line.specs.Entry.{entries}
+use Rattle.edi_line.specs.ZoneData.{entries}
 use Rattle.edi_explain.proofs.LinkEnds.{not_either, take_named}
 use Rattle.edi_explain.proofs.elsewhere.SoughtNameGroupOut.take.Goals as goal
 

@@ -1,5 +1,5 @@
 use Rattle.std.proofs.Common.{◌≡◌, ◌↔◌, Option, Some, subst}
-use Rattle.edi_line.specs.Entry.{entries}
+use Rattle.edi_line.specs.ZoneData.{entries}
 use Rattle.edi_record.specs.Texts.{PointerText}
 use Rattle.edi_record.specs.declared.name.Name.{Name}
 use Rattle.edi_explain.specs.AstrayZones.{IsNamedBy}

@@ -1,5 +1,5 @@
 use Rattle.std.proofs.Common.{arith}
-use Rattle.edi_line.specs.Entry.{entries}
+use Rattle.edi_line.specs.ZoneData.{entries}
 use Rattle.edi_explain.proofs.Quality.{quality_more}
 use Rattle.edi_explain.proofs.skipped.QualityCountGroupOut.take.Goals as goal
 

@@ -1,7 +1,7 @@
 use Rattle.std.proofs.Common.{◌≡◌, length, ap, subst, arith}
 use Rattle.std.proofs.lemmas.List.{length_push}
 use Rattle.edi_line.specs.Refusal.{IsUnbroken}
-use Rattle.edi_plan.specs.Plans.{Drawing}
+use Rattle.edi_plan.specs.Plans.{PlanData}
 use Rattle.edi_plan.specs.Whole.{IsWholePlan}
 use Rattle.edi_topo.specs.TopologyRules.{BreaksTopologyRule}
 use Rattle.edi_matching.specs.inner.Partners.{TwoPlans}
@@ -26,9 +26,9 @@ returns c =
     let two = c.args.self.now in
     let here : c.self.inside.plan.now ≡ two.plan = ap (λ (t : TwoPlans). t.plan) c.self.view_is in
     let there : c.self.inside.other.now ≡ two.other = ap (λ (t : TwoPlans). t.other) c.self.view_is in
-    let long : length c.self.inside.plan.now.list ≡ length two.plan.list = ap (λ (p : Drawing). length p.list) here in
+    let long : length c.self.inside.plan.now.list ≡ length two.plan.list = ap (λ (p : PlanData). length p.list) here in
     let contents =
-    partners_known two (subst IsWholePlan here c.keeps.ensures.whole) (subst IsWholePlan there c.keeps-2.ensures.whole) (subst (λ (p : Drawing). IsUnbroken (BreaksTopologyRule p)) here c.self.invariant.0.0)
+    partners_known two (subst IsWholePlan here c.keeps.ensures.whole) (subst IsWholePlan there c.keeps-2.ensures.whole) (subst (λ (p : PlanData). IsUnbroken (BreaksTopologyRule p)) here c.self.invariant.0.0)
     c.loop-place.to.items c.loop-place.turned.items c.from_vec.result c.from_vec-2.result c.from_vec.ensures c.from_vec-2.ensures c.loop-place.place
     (omega (arith, long)) inv.to_long inv.turned_long inv.each in
     record { holds = contents.0; partners = contents.1 }

@@ -1,5 +1,5 @@
 use Rattle.std.proofs.Common.{◌∙◌}
-use Rattle.edi_line.specs.Entry.{entries}
+use Rattle.edi_line.specs.ZoneData.{entries}
 use Rattle.edi_pairing.proofs.NamesTaken.{taken_push}
 use Rattle.edi_pairing.proofs.taken.TakenNamesGroupOut.take.Goals as goal
 

@@ -1,5 +1,5 @@
 use Rattle.std.proofs.Common.{◌∙◌, ◌&&◌, refl, sym, ap, codes, is_some, Some}
-use Rattle.edi_line.specs.Entry.{has_code}
+use Rattle.edi_line.specs.ZoneData.{has_code}
 use Rattle.edi_record.specs.inner.Stored.{kept_attributes}
 use Rattle.edi_record.proofs.AttributesStored.{set_only, set_taken, attributes_pass}
 use Rattle.edi_record.proofs.attributes.Attributes.take_set.Goals as goal

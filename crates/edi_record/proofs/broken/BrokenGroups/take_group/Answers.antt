@@ -1,5 +1,5 @@
 use Rattle.std.proofs.Common.{arith}
-use Rattle.edi_line.specs.Entry.{entries}
+use Rattle.edi_line.specs.ZoneData.{entries}
 use Rattle.edi_record.proofs.RecordsBroken.{one_held}
 use Rattle.edi_record.proofs.broken.BrokenGroups.take_group.Goals as goal
 

@@ -1,6 +1,6 @@
 use Rattle.std.proofs.Common.{◌≡◌, ◌∙◌, ◌∷◌, [], List, false, not, is_some, refl, sym, ap, codes, Some, arith}
 use Rattle.std.proofs.lemmas.Bool.{or_from, or_left, or_right}
-use Rattle.edi_line.specs.Entry.{Entry}
+use Rattle.edi_line.specs.ZoneData.{ZoneData}
 use Rattle.edi_record.specs.Records.{values}
 use Rattle.edi_record.specs.RecordRules.{has_no_identifier}
 use Rattle.edi_record.specs.inner.RecordRules.{kind_in, has_no_class, has_bad_point, has_bad_end, has_unknown_pointer}
@@ -32,7 +32,7 @@ returns-then-is_wrong-clause-least c = λ group k h.
 pub returns-in_err-finish-2-clause-least : goal.returns-in_err-finish-2-clause-least
 returns-in_err-finish-2-clause-least c =
     let d = kept c.args.self.now c.args.parts.now in
-    err_kept _ c.in_err-finish-2.field-0.0 (λ fault. (group : List Entry) → kind_in group ≡ Some d.kind → StoresRecord d [] group → IsGroupRefusal group fault) c.from_residual-in_err-finish-2.ensures.1 (λ group k h.
+    err_kept _ c.in_err-finish-2.field-0.0 (λ fault. (group : List ZoneData) → kind_in group ≡ Some d.kind → StoresRecord d [] group → IsGroupRefusal group fault) c.from_residual-in_err-finish-2.ensures.1 (λ group k h.
     let n1 = no_201 d.kind group k in
     let n2 : has_no_identifier group ≡ false = ap not (c.in-Some.ensures (values (codes "RID") group) h.identifier).0 in
     let n3 : has_no_class group ≡ false = ap not (c.in-Some-class_pointer.ensures (values (codes "SCP") group) h.class).0 in
@@ -47,7 +47,7 @@ returns-in_err-finish-2-clause-least c =
 pub returns-in_err-finish-3-clause-least : goal.returns-in_err-finish-3-clause-least
 returns-in_err-finish-3-clause-least c =
     let d = kept c.args.self.now c.args.parts.now in
-    err_kept _ c.in_err-finish-3.field-0.0 (λ fault. (group : List Entry) → kind_in group ≡ Some d.kind → StoresRecord d [] group → IsGroupRefusal group fault) c.from_residual-in_err-finish-3.ensures.1 (λ group k h.
+    err_kept _ c.in_err-finish-3.field-0.0 (λ fault. (group : List ZoneData) → kind_in group ≡ Some d.kind → StoresRecord d [] group → IsGroupRefusal group fault) c.from_residual-in_err-finish-3.ensures.1 (λ group k h.
     let n1 = no_201 d.kind group k in
     let n2 : has_no_identifier group ≡ false = ap not (c.in-Some.ensures (values (codes "RID") group) h.identifier).0 in
     let n3 : has_no_class group ≡ false = ap not (c.in-Some-class_pointer.ensures (values (codes "SCP") group) h.class).0 in
@@ -63,7 +63,7 @@ returns-in_err-finish-3-clause-least c =
 pub returns-in_err-finish-4-clause-least : goal.returns-in_err-finish-4-clause-least
 returns-in_err-finish-4-clause-least c =
     let d = kept c.args.self.now c.args.parts.now in
-    err_kept _ c.in_err-finish-4.field-0.0 (λ fault. (group : List Entry) → kind_in group ≡ Some d.kind → StoresRecord d [] group → IsGroupRefusal group fault) c.from_residual-in_err-finish-4.ensures.1 (λ group k h.
+    err_kept _ c.in_err-finish-4.field-0.0 (λ fault. (group : List ZoneData) → kind_in group ≡ Some d.kind → StoresRecord d [] group → IsGroupRefusal group fault) c.from_residual-in_err-finish-4.ensures.1 (λ group k h.
     let n1 = no_201 d.kind group k in
     let n2 : has_no_identifier group ≡ false = ap not (c.in-Some.ensures (values (codes "RID") group) h.identifier).0 in
     let n3 : has_no_class group ≡ false = ap not (c.in-Some-class_pointer.ensures (values (codes "SCP") group) h.class).0 in

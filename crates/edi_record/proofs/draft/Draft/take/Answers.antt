@@ -1,5 +1,5 @@
 use Rattle.std.proofs.Common.{◌≡◌, ◌∙◌, ◌&&◌, true, false, refl, sym, ap, length, is_some, codes, bytes_eq}
-use Rattle.edi_line.specs.Entry.{entry}
+use Rattle.edi_line.specs.ZoneData.{entry}
 use Rattle.edi_record.specs.Records.{values}
 use Rattle.edi_record.specs.declared.role.ZoneRole.TheVariants.{Identifier, Class, AttributeCount, AttributeClass, AttributeSet, AttributeValue, BodyCount, Position, EndPointer, EndSense, Skipped, Unknown}
 use Rattle.edi_record.specs.inner.Stored.{kept, kept_attributes, kept_extras}

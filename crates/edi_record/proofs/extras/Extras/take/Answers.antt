@@ -1,5 +1,5 @@
 use Rattle.std.proofs.Common.{◌∙◌, ◌++◌, ◌∷◌, [], refl, sym, ap}
-use Rattle.edi_line.specs.Entry.{entry}
+use Rattle.edi_line.specs.ZoneData.{entry}
 use Rattle.edi_record.specs.inner.Stored.{kept_extras}
 use Rattle.edi_record.proofs.PointsStored.{extra_taken, pointer_met}
 use Rattle.edi_record.proofs.extras.Extras.take.Goals as goal

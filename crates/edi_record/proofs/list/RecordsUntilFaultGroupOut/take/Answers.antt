@@ -1,5 +1,5 @@
 use Rattle.std.proofs.Common.{◌+◌, ◌++◌, ◌∷◌, [], ◌∙◌, sym, subst, arith}
-use Rattle.edi_line.specs.Entry.{entry, entries}
+use Rattle.edi_line.specs.ZoneData.{entry, entries}
 use Rattle.edi_line.proofs.Stretches.{cut_first}
 use Rattle.edi_record.specs.inner.Lists.{IsSound}
 use Rattle.edi_record.specs.inner.Records.{ReadsAs}

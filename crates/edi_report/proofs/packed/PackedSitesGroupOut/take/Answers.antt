@@ -1,5 +1,5 @@
 use Rattle.std.proofs.Common.{◌++◌, ◌∷◌, [], refl}
-use Rattle.edi_line.specs.Entry.{entry, entries}
+use Rattle.edi_line.specs.ZoneData.{entry, entries}
 use Rattle.edi_line.proofs.Stretches.{cut_first}
 use Rattle.edi_report.specs.declared.site.Site.{Site}
 use Rattle.edi_report.proofs.Sited.{one_site, site_push}

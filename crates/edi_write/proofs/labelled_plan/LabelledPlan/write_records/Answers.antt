@@ -2,13 +2,13 @@ use Rattle.std.proofs.Common.{◌≡◌, ◌++◌, ◌∙◌, ℕ, List, ap, sym
 use Rattle.std.specs.Prelude.{flat_map}
 use Rattle.std.proofs.lemmas.Grind.{flat_map-append}
 use Rattle.std.proofs.lemmas.Result.{on_ok_weaker}
-use Rattle.edi_line.specs.Entry.{Entry}
+use Rattle.edi_line.specs.ZoneData.{ZoneData}
 use Rattle.edi_line.specs.Printing.{printed, printed_zone}
 use Rattle.edi_write.specs.inner.Numbered.{numbered_zones}
 use Rattle.edi_write.proofs.labelled_plan.LabelledPlan.write_records.Goals as goal
 
 -- two parts that were written one after the other
-both : (f : ℕ → List Entry) (xs ys : List ℕ) (before between after : List ℕ) → between ≡ before ++ printed (flat_map f xs) → after ≡ between ++ printed (flat_map f ys)
+both : (f : ℕ → List ZoneData) (xs ys : List ℕ) (before between after : List ℕ) → between ≡ before ++ printed (flat_map f xs) → after ≡ between ++ printed (flat_map f ys)
     → after ≡ before ++ printed (flat_map f (xs ++ ys))
 both f xs ys before between after first second =
     second ∙ (ap (λ b. b ++ printed (flat_map f ys)) first ∙ (append_assoc before (printed (flat_map f xs)) (printed (flat_map f ys))

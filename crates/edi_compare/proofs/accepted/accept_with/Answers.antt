@@ -3,7 +3,7 @@ use Rattle.edi_compare.specs.Faults.{of_record}
 use Rattle.edi_compare.specs.Refused.{IsRefusal}
 use Rattle.edi_compare.proofs.Phases.{all_held}
 use Rattle.edi_compare.proofs.Refusals.{err_kept, rank_fault}
-use Rattle.edi_compare.proofs.accepted.accept_beside.Goals as goal
+use Rattle.edi_compare.proofs.accepted.accept_with.Goals as goal
 
 pub returns-in_err-tell_objects_apart-clause-refusal : goal.returns-in_err-tell_objects_apart-clause-refusal
 returns-in_err-tell_objects_apart-clause-refusal g c =
