@@ -45,8 +45,7 @@ RECORDS = {"objects": 14, "parcels": 12}
 # what each phase alone finds: the lines that are put before the last, and the rule
 NODE = ["RTYSA03:PNO", "RIDSA05:again", "SCPCP22:EDAB01;SeSD;PGE;NOD_id", "CORCC12:+0.00;+0.00;"]
 PHASES = [
-    ("lines and zones", ["?"], "101"),
-    ("records", ["RTYSA03:XYZ", "RIDSA01:a"], "201"),
+    ("lines and records", ["RTYSA03:XYZ", "RIDSA01:a"], "201"),
     ("names and plan", ["RTYSA03:PNO", "RIDSA05:wrong", "SCPCP22:EDAB01;SeSD;PGE;NON_id", "CORCC12:+0.00;+0.00;"], "302"),
     ("topology", NODE, "403"),
     ("objects", [line for k in "12" for line in ("RTYSA03:FEA", f"RIDSA05:alik{k}", "SCPCP27:EDAB01;SeSD;OBJ;PARCELLE_id")], "501"),
