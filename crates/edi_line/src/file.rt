@@ -42,7 +42,7 @@ impl Model for Pieces {
 
 impl Pieces {
     /// No bytes.
-    pub fn new(alloc: Global) -> Pieces
+    pub(crate) fn new(alloc: Global) -> Pieces
         ensures { result ≡ [] }
     {
         Pieces {
@@ -68,8 +68,7 @@ impl Pieces {
     }
 
     /// These bytes, and others behind them, which make a piece as far as they have a record whose first line has ended.
-    pub fn with(self, alloc: Global, bytes: &[u8]) -> Result<Pieces, AllocError>
-        requires { length self + length bytes.now < 2 ^ 64 - 1 }
+    pub(crate) fn with_more(self, alloc: Global, bytes: &[u8]) -> Result<Pieces, AllocError>
         ensures { IfOk result (λ pieces. pieces ≡ self ++ bytes.now) }
     {
         let Pieces {
@@ -77,7 +76,11 @@ impl Pieces {
             mut last,
             len,
         } = self;
-        let len = len + bytes.len() as u64;
+        let more = bytes.len() as u64;
+        if more >= u64::MAX - len {
+            return Err(AllocError);
+        }
+        let len = len + more;
         let Some((front, behind)) = cut(bytes) else {
             last.extend_from_slice(bytes)?;
             return Ok(Pieces { ended, last, len });

@@ -37,5 +37,5 @@ pub use script::{ScriptIn, ScriptOut};
 pub use sequence::Sequence;
 pub use spelling::readings_are_unique;
 pub use text::Text;
-pub use whole::{ReadFault, read_all, read_pieces};
+pub use whole::{Gathering, ReadFault, read_all, read_whole};
 pub use zone::Zone;

@@ -2,7 +2,7 @@
 //! zones.
 
 ghost use Rattle.std.specs.Prelude.{◌≡◌, ◌<◌, ◌∷◌, ◌++◌, [], length, slice_get, Some, IfOk, OnOk, OnErr};
-ghost use Rattle.edi_record.specs.AnyRecords.{any_record, record_lent};
+ghost use Rattle.edi_record.specs.AnyRecords.{any_record, record_lent, Parts};
 ghost use Rattle.edi_record.specs.inner.FlatRecords.{no_stops, stops_before};
 
 use crate::any_record::AnyRecordRef;
@@ -151,6 +151,14 @@ impl<H: Drop, A: Drop, E: Drop> Block<H, A, E> {
         ensures { result ≡ length self.now }
     {
         self.heads.len()
+    }
+
+    /// The head of a record, by its place from 0.
+    pub(crate) fn head(&self, place: usize) -> &H
+        requires { place < length self.now }
+        ensures { (parts : Parts A E) × (slice_get self.now place ≡ Some (record { head = result.now; parts = parts })) }
+    {
+        &self.heads[place].head
     }
 
     /// A record, by its place from 0.

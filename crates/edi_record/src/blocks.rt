@@ -1,7 +1,7 @@
 //! Records in blocks of as many records each, but for the last.
 
 ghost use Rattle.std.specs.Prelude.{◌≡◌, ◌<◌, ◌%◌, ◌^◌, ◌∷◌, ◌++◌, [], length, slice_get, Some, IfOk, OnOk, OnErr};
-ghost use Rattle.edi_record.specs.AnyRecords.{any_record, record_lent};
+ghost use Rattle.edi_record.specs.AnyRecords.{any_record, record_lent, Parts};
 ghost use Rattle.edi_record.specs.inner.BlockLists.{joined, AreBlocks};
 
 use crate::any_record::AnyRecordRef;
@@ -145,6 +145,14 @@ impl<H: Drop, A: Drop, E: Drop> Blocks<H, A, E> {
         } else {
             &self.last
         }
+    }
+
+    /// The head of a record, by its place from 0. Its parts aren't looked up.
+    pub fn head(&self, place: usize) -> &H
+        requires { place < length self.now }
+        ensures { (parts : Parts A E) × (slice_get self.now place ≡ Some (record { head = result.now; parts = parts })) }
+    {
+        self.block(place).head(place % BLOCK)
     }
 
     /// A record, by its place from 0.

@@ -91,7 +91,7 @@ impl SheetRecords {
         requires { place < length self.now }
         ensures { result ≡ (stated_at self.now place).kind }
     {
-        self.blocks.record(place).head.kind
+        self.blocks.head(place).kind
     }
 
     /// The identifier of a record, by its place from 0.
@@ -99,7 +99,7 @@ impl SheetRecords {
         requires { place < length self.now }
         ensures { result.now ≡ (stated_at self.now place).rid }
     {
-        &self.blocks.record(place).head.rid
+        &self.blocks.head(place).rid
     }
 
     /// The ends of a record, by its place from 0: none if it is no link.
