@@ -182,7 +182,7 @@ impl Schema {
     }
 
     /// Whether there is a class at this place that has this name.
-    fn has_name(&self, place: u32, name: &Name) -> bool
+    pub(crate) fn has_name(&self, place: u32, name: &Name) -> bool
         ensures class { result ≡ true → place_of self.now name.now ≡ Some place }
         ensures within { result ≡ true → place < length self.now }
     {
