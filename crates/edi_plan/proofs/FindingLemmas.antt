@@ -199,7 +199,7 @@ noted_more old now ts role i a o d less before =
 -- ---- 305 and 307 at one record
 
 module _ (s : Classes) (list : List Record) where
-  arc_named : (a : ℕ) (e : End) (t : Option Target) → IsTargetIfAny list e t → is_arc_at a t ≡ true → Names s list e a Par
+  pub arc_named : (a : ℕ) (e : End) (t : Option Target) → IsTargetIfAny list e t → is_arc_at a t ≡ true → Names s list e a Par
   arc_named a e None is h = absurd cc
   arc_named a e (Some t) is h = go (same_kind t.kind Par) refl h
     where
@@ -209,7 +209,7 @@ module _ (s : Classes) (list : List Record) where
           subst (λ n. Names s list e n Par) (sym (eqb-true a t.place h))
           (subst (λ (x : Kind). Names s list e t.place x) (kind_same s list t.kind Par k) (target_names s list e t is))
 
-  named_arc : (a : ℕ) (e : End) (t : Option Target) → IsTargetIfAny list e t → Names s list e a Par → is_arc_at a t ≡ true
+  pub named_arc : (a : ℕ) (e : End) (t : Option Target) → IsTargetIfAny list e t → Names s list e a Par → is_arc_at a t ≡ true
   named_arc a e t is names = ap (is_arc_at a) (names_target s list e t a Par is names refl) ∙ eq-eqb a a refl
 
   -- an end of this list names an arc that an earlier link of the role names

@@ -15,6 +15,8 @@ pub mod DoneLemmas
 pub mod FindingLemmas
 pub mod StepLemmas
 pub mod RecordLemmas
+pub mod Leasts
+pub mod EarlierLinks
 pub mod PlanLemmas
 pub mod JoinedLemmas
 pub mod Spans

@@ -5,6 +5,7 @@ pub mod Agreeing
 pub mod Sides
 pub mod Joined
 pub mod ReferenceRules
+pub mod EarlierLinks
 pub mod RecordsUnderSchema
 pub mod Laws
 pub mod Orders

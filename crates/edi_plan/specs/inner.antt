@@ -9,4 +9,5 @@ pub mod Findings
 pub mod Resolving
 pub mod SideTable
 pub mod Targets
+pub mod EarlierLinks
 pub mod Places

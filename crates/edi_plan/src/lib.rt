@@ -3,6 +3,7 @@
 
 pub mod attributes;
 mod class_finders;
+mod earlier_links;
 pub mod extent;
 pub mod fault;
 pub mod laws;
@@ -25,7 +26,7 @@ mod targets;
 
 pub use attributes::sorted_attributes;
 pub use extent::{Extent, Span, extent_of, extent_with, extent_with_point};
-pub use fault::RefFault;
+pub use fault::{RefFault, Unplanned};
 pub use plan::Plan;
 pub use record::{PlanAttribute, PlanEnd, PlanRecord};
 pub use reference_findings::ReferenceFindings;

@@ -25,7 +25,7 @@ pub(crate) struct LinkFindings {
 }
 
 /// The kind of a link, and none of the four for a record of another type or a class that the schema lacks.
-fn link_role(schema: &Schema, record: &RecordRef<'_>) -> Role
+pub(crate) fn link_role(schema: &Schema, record: &RecordRef<'_>) -> Role
     ensures { result ≡ role_of_link schema.now record.now }
 {
     if !record.kind().is_link() {

@@ -1,7 +1,7 @@
 ghost use Rattle.std.specs.Prelude.{◌≡◌, ◌≢◌, ◌↔◌, ◌<◌, ◌≤◌, length, Some, OnOk, IfOk, IfErr, MatchOption, option_copied, ℕ};
 ghost use Rattle.edi_line.specs.Refusal.{IsUnbroken};
 
-use crate::fault::RefFault;
+use crate::fault::{RefFault, Unplanned};
 use crate::places::Places;
 use crate::planned::RecordList;
 use crate::record::{PlanAttribute, PlanEnd};
@@ -54,6 +54,7 @@ impl Plan {
     ghost use Rattle.edi_plan.specs.Sides.{IsSideIfAny};
     ghost use Rattle.edi_plan.specs.Joined.{IsJoined};
     ghost use Rattle.edi_plan.specs.Whole.{IsWholePlan};
+    ghost use Rattle.edi_plan.specs.EarlierLinks.{IsEarlierLinkIfAny};
     ghost use Rattle.edi_plan.specs.ReferenceRules.{BreaksReferenceRule};
     ghost use Rattle.edi_record.specs.RecordRefusal.{IsRecordRefusal};
 
@@ -64,6 +65,24 @@ impl Plan {
         ensures agrees { IfOk result (Agrees schema.now) }
         ensures sound { OnOk result (IsUnbroken (BreaksReferenceRule schema.now sheet.list)) }
         ensures least { IfErr result (IsRecordRefusal (BreaksReferenceRule schema.now sheet.list)) }
+    {
+        match Plan::build_with_earlier(alloc, schema, sheet) {
+            Ok(plan) => Ok(plan),
+            Err(Unplanned { fault, earlier: _ }) => Err(fault),
+        }
+    }
+
+    /// What `build` gives, and beside a fault by 307 the earlier link.
+    pub fn build_with_earlier(
+        alloc: Global,
+        schema: &Schema,
+        sheet: Sheet,
+    ) -> Result<Plan, Unplanned>
+        ensures plan { IfOk result (IsPlanOf schema.now sheet) }
+        ensures agrees { IfOk result (Agrees schema.now) }
+        ensures sound { OnOk result (IsUnbroken (BreaksReferenceRule schema.now sheet.list)) }
+        ensures least { IfErr result (λ u. IsRecordRefusal (BreaksReferenceRule schema.now sheet.list) u.fault) }
+        ensures earlier { IfErr result (λ u. IsEarlierLinkIfAny schema.now sheet.list u.fault u.earlier) }
     {
         let Sheet { cse, list } = sheet;
         let references = References::among(alloc, &list)?;

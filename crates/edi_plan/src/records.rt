@@ -9,6 +9,7 @@ ghost use Rattle.edi_schema.specs.Classes.{place_of};
 ghost use Rattle.edi_plan.specs.inner.Done.{IsDone};
 ghost use Rattle.edi_plan.specs.PlanOf.{StatesPlanRecord};
 ghost use Rattle.edi_record.specs.RecordRefusal.{IsRecordRefusal};
+ghost use Rattle.edi_plan.specs.EarlierLinks.{IsEarlierLinkIfAny};
 ghost use Rattle.edi_plan.specs.ReferenceRules.{BreaksReferenceRule};
 ghost use Rattle.edi_plan.specs.inner.Finders.{AreOf};
 ghost use Rattle.edi_plan.specs.inner.Resolving.{is_elsewhere, leaves, reference_tests, role_of_link, AreGiven, Gives, AreReferences, IsPlanned, IsUnresolved, LacksClass, Resolves};
@@ -16,7 +17,9 @@ ghost use Rattle.edi_plan.specs.inner.SideTable.{link_join, HaveEntries, IsNoted
 ghost use Rattle.edi_plan.specs.inner.RecordLists.{records_of};
 
 use crate::class_finders::ClassFinders;
-use crate::fault::{RefFault, Unresolved};
+use crate::earlier_links::earlier_link;
+use crate::fault::{RefFault, Unplanned, Unresolved};
+use crate::link_findings::link_role;
 use crate::planned::{PlannedRecord, RecordList};
 use crate::record::{PlanAttribute, PlanEnd};
 use crate::references::{References, Subset};
@@ -250,14 +253,18 @@ fn is_place(repeat: Option<usize>, place: usize) -> bool
     }
 }
 
-/// A rule that is broken at a place from 0.
-fn broken(rule: u16, place: usize) -> RefFault
+/// A rule that is broken at a place from 0, with the earlier link of which it speaks.
+fn broken(rule: u16, place: usize, earlier: Option<u64>) -> Unplanned
     requires { place < most_records }
-    ensures { result ≡ RefFault.Broken rule (place + 1) }
+    ensures fault { result.fault ≡ RefFault.Broken rule (place + 1) }
+    ensures earlier { result.earlier ≡ earlier }
 {
-    RefFault::Broken {
-        rule,
-        at: place as u64 + 1,
+    Unplanned {
+        fault: RefFault::Broken {
+            rule,
+            at: place as u64 + 1,
+        },
+        earlier,
     }
 }
 
@@ -268,19 +275,20 @@ pub(crate) struct Planned {
     pub(crate) sides: Vec<ByRole<Option<u32>>>,
 }
 
-/// The records in the plan; or the first that breaks a rule of references, and the least rule there. The records are
-/// let go on the way.
+/// The records in the plan; or the first that breaks a rule of references, and the least rule there, of 307 with the
+/// earlier link. The records are let go on the way.
 pub(crate) fn plan_records(
     alloc: Global,
     schema: &Schema,
     references: &References,
     records: SheetRecords,
-) -> Result<Planned, RefFault>
+) -> Result<Planned, Unplanned>
     requires few { length records ≤ most_records }
     requires references { AreReferences records references.now }
     ensures each { IfOk result (λ p. AllZip (StatesPlanRecord schema.now records) records (records_of p.list)) }
     ensures sides { IfOk result (λ p. IsDone schema.now records (length records) p.sides.items) }
-    ensures least { IfErr result (IsRecordRefusal (BreaksReferenceRule schema.now records)) }
+    ensures least { IfErr result (λ u. IsRecordRefusal (BreaksReferenceRule schema.now records) u.fault) }
+    ensures earlier { IfErr result (λ u. IsEarlierLinkIfAny schema.now records u.fault u.earlier) }
 {
     let mut list = RecordList::with_capacity(alloc, records.len())?;
     let mut sides = without_links(alloc, records.len())?;
@@ -292,7 +300,7 @@ pub(crate) fn plan_records(
     let mut place = 0;
     while let Some(record) = rest.first() {
         if is_place(references.repeat, place) {
-            return Err(broken(301, place));
+            return Err(broken(301, place, None));
         }
         let (own, later) = targets.split_at(record.ends().len());
         let class = classes.class(record.scp());
@@ -307,8 +315,11 @@ pub(crate) fn plan_records(
             spare,
         ) {
             Ok(planned) => spare = planned.put_behind(&mut list)?,
-            Err(Unresolved::Memory(error)) => return Err(RefFault::Memory(error)),
-            Err(Unresolved::Broken(rule)) => return Err(broken(rule, place)),
+            Err(Unresolved::Memory(error)) => return Err(Unplanned::from(error)),
+            Err(Unresolved::Broken(rule)) => {
+                let earlier = earlier_link(rule, &list, link_role(schema, &record), own);
+                return Err(broken(rule, place, earlier));
+            }
         }
         targets = later;
         rest.advance();

@@ -1,6 +1,5 @@
 ghost use Rattle.std.specs.Prelude.{◌≡◌};
-ghost use Rattle.edi_topo.specs.NodeKeys.{node_key_cmp};
-ghost use Rattle.edi_rank.specs.Keys.{end_cmp, face_key_cmp, link_key_cmp, object_key_cmp};
+ghost use Rattle.edi_rank.specs.Keys.{face_key_cmp};
 
 use edi_line::{BorrowedList, ListOfBorrowed, Sequence};
 use edi_plan::PlanAttribute;
@@ -69,11 +68,4 @@ pub fn compare_faces(a: FaceKey, b: FaceKey) -> Ordering
     ensures { result ≡ face_key_cmp a b }
 {
     a.cmp(&b)
-}
-
-/// Objects go by class, attributes, extra zones, then pieces.
-pub fn compare_objects(a: &ObjectKey<'_>, b: &ObjectKey<'_>) -> Ordering
-    ensures { result ≡ object_key_cmp a.now b.now }
-{
-    a.cmp(b)
 }

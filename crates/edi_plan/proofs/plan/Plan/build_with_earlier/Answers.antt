@@ -6,7 +6,7 @@ use Rattle.edi_plan.specs.inner.RecordLists.{record_of, records_of}
 use Rattle.edi_plan.proofs.Built.{plans_agreeing, plans_whole, zip_length}
 use Rattle.edi_plan.proofs.JoinedLemmas.{plans_joined}
 use Rattle.edi_plan.proofs.PlanLemmas.{all_unbroken, sides_of}
-use Rattle.edi_plan.proofs.plan.Plan.build.Goals as goal
+use Rattle.edi_plan.proofs.plan.Plan.build_with_earlier.Goals as goal
 
 pub returns-clause-plan : goal.returns-clause-plan
 returns-clause-plan c = record {
