@@ -3,7 +3,6 @@ pub mod Done
 pub mod LinkNames
 pub mod Names
 pub mod Hints
-pub mod Finders
 pub mod Found
 pub mod Findings
 pub mod Resolving

@@ -2,7 +2,6 @@
 #![tactic(auto)]
 
 pub mod attributes;
-mod class_finders;
 mod earlier_links;
 pub mod extent;
 pub mod fault;

@@ -11,12 +11,10 @@ ghost use Rattle.edi_plan.specs.PlanOf.{StatesPlanRecord};
 ghost use Rattle.edi_record.specs.RecordRefusal.{IsRecordRefusal};
 ghost use Rattle.edi_plan.specs.EarlierLinks.{IsEarlierLinkIfAny};
 ghost use Rattle.edi_plan.specs.ReferenceRules.{BreaksReferenceRule};
-ghost use Rattle.edi_plan.specs.inner.Finders.{AreOf};
 ghost use Rattle.edi_plan.specs.inner.Resolving.{is_elsewhere, leaves, reference_tests, role_of_link, AreGiven, Gives, AreReferences, IsPlanned, IsUnresolved, LacksClass, Resolves};
 ghost use Rattle.edi_plan.specs.inner.SideTable.{link_join, HaveEntries, IsNoted};
 ghost use Rattle.edi_plan.specs.inner.RecordLists.{records_of};
 
-use crate::class_finders::ClassFinders;
 use crate::earlier_links::earlier_link;
 use crate::fault::{RefFault, Unplanned, Unresolved};
 use crate::link_findings::link_role;
@@ -52,12 +50,12 @@ pub(crate) fn is_attribute_type(rty: &Text) -> bool
 }
 
 /// The class of an attribute under a schema, if it is one of type `ATT` there.
-fn attribute_class(schema: &Schema, classes: &mut ClassFinders<'_>, name: &Name) -> Option<ClassRef>
-    requires { AreOf schema.now classes.old }
+fn attribute_class(schema: &Schema, classes: &mut ClassFinder<'_>, name: &Name) -> Option<ClassRef>
+    requires { classes.old ≡ schema.now }
     ensures class { MatchOption result ((name.now.rty ≢ codes "ATT") ⊎ (place_of schema.now name.now ≡ None))
         (λ class. (name.now.rty ≡ codes "ATT") × (place_of schema.now name.now ≡ Some class)
         × (class < length schema.now)) }
-    ensures same { AreOf schema.now classes.new }
+    ensures same { classes.new ≡ schema.now }
 {
     let _ = schema;
     if is_attribute_type(&name.rty) {
@@ -89,13 +87,13 @@ fn copied(text: &Option<Text>) -> Result<Option<Text>, AllocError>
 /// An attribute under a schema that has this class for it; or rule 303, where it has none.
 fn plan_attribute(
     schema: &Schema,
-    classes: &mut ClassFinders<'_>,
+    classes: &mut ClassFinder<'_>,
     attribute: &Attribute,
 ) -> Result<PlanAttribute, Unresolved>
-    requires { AreOf schema.now classes.old }
+    requires { classes.old ≡ schema.now }
     ensures ok { IfOk result (Resolves schema.now attribute.now) }
     ensures err { IfErr result (IsUnresolved (λ rule. (rule ≡ 303) × LacksClass schema.now attribute.now)) }
-    ensures same { AreOf schema.now classes.new }
+    ensures same { classes.new ≡ schema.now }
 {
     let Some(class) = attribute_class(schema, classes, &attribute.atp) else {
         return Err(Unresolved::Broken(303));
@@ -110,15 +108,15 @@ fn plan_attribute(
 /// The attributes under a schema, in a list that is empty; or rule 303, where one has no class there.
 fn plan_attributes(
     schema: &Schema,
-    classes: &mut ClassFinders<'_>,
+    classes: &mut ClassFinder<'_>,
     attributes: &[Attribute],
     mut done: Vec<PlanAttribute>,
 ) -> Result<Vec<PlanAttribute>, Unresolved>
     requires empty { done.items ≡ [] }
-    requires schema { AreOf schema.now classes.old }
+    requires schema { classes.old ≡ schema.now }
     ensures ok { IfOk result (λ done. AllZip (Resolves schema.now) attributes.now done.items) }
     ensures err { IfErr result (IsUnresolved (λ rule. (rule ≡ 303) × Any (LacksClass schema.now) attributes.now)) }
-    ensures same { AreOf schema.now classes.new }
+    ensures same { classes.new ≡ schema.now }
 {
     for attribute in attributes {
         done.push(plan_attribute(schema, classes, attribute)?)?;
@@ -203,17 +201,17 @@ fn plan_record<'a>(
     targets: &[Option<Target>],
     sides: &mut [ByRole<Option<u32>>],
     class: Option<ClassRef>,
-    classes: &mut ClassFinders<'_>,
+    classes: &mut ClassFinder<'_>,
     record: &RecordRef<'a>,
     spare: SpareParts,
 ) -> Result<PlannedRecord<'a>, Unresolved>
-    requires schema { AreOf schema.now classes.old }
+    requires schema { classes.old ≡ schema.now }
     requires class { class ≡ place_of schema.now record.now.scp }
     requires within { IfSome class (λ class. class < length schema.now) }
     requires long { length targets.now ≡ length record.now.ends }
     requires entries { HaveEntries sides.old targets.now }
     ensures planned { IfOk result (IsPlanned schema.now targets.now record.now) }
-    ensures same { AreOf schema.now classes.new }
+    ensures same { classes.new ≡ schema.now }
     ensures noted { OnOk result (IsNoted sides.old (role_of_link schema.now record.now)
         (link_join (role_of_link schema.now record.now) targets.now) sides.new) }
     ensures sound { OnOk result (first_broken (reference_tests schema.now subset.now targets.now sides.old record.now)
@@ -294,7 +292,7 @@ pub(crate) fn plan_records(
     let mut sides = without_links(alloc, records.len())?;
     let mut targets = references.targets.as_slice();
     let mut classes = ClassFinder::new(schema);
-    let mut attribute_classes = ClassFinders::new(alloc, schema)?;
+    let mut attribute_classes = ClassFinder::new(schema);
     let mut spare = SpareParts::new(alloc);
     let mut rest = records.into_rest();
     let mut place = 0;

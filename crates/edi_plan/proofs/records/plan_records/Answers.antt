@@ -127,7 +127,7 @@ loop-record-preserved c =
 pub loop-record-init : goal.loop-record-init
 loop-record-init c = record {
   same = c.new-classes.ensures;
-  finders = c.in_ok-attribute_classes.ensures;
+  finders = c.new-attribute_classes.ensures;
   there = omega arith;
   rest = c.into_rest-rest.ensures;
   zipped = subst (AllZip (StatesPlanRecord c.args.schema.now c.args.records) []) (sym (ap records_of c.in_ok-list.ensures)) tt;

@@ -1,7 +1,6 @@
 use Rattle.std.proofs.Common.{◌≡◌, ◌≤◌, ℕ, length, take, drop, Some}
 use Rattle.std.specs.List.{AllZip}
 use Rattle.edi_plan.specs.inner.Done.{IsDone}
-use Rattle.edi_plan.specs.inner.Finders.{AreOf}
 use Rattle.edi_plan.specs.PlanOf.{StatesPlanRecord}
 use Rattle.edi_plan.specs.inner.Targets.{AreTargets}
 use Rattle.edi_plan.specs.inner.RecordLists.{records_of}
@@ -10,7 +9,7 @@ use Rattle.edi_plan.proofs.records.plan_records.Given as goal
 abbrev pub invariant-loop-record : goal.invariant-loop-record
 invariant-loop-record l = record {
   same : l.classes ≡ l.schema;
-  finders : AreOf l.schema l.attribute_classes;
+  finders : l.attribute_classes ≡ l.schema;
   there : l.place ≤ length l.fn.records;
   rest : l.rest ≡ drop l.place l.fn.records;
   zipped : AllZip (StatesPlanRecord l.schema l.fn.records) (take l.place l.fn.records) (records_of l.list);
