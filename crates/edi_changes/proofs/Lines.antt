@@ -5,7 +5,7 @@ use Rattle.std.proofs.lemmas.Bool.{eqb-true, eqb-false}
 use Rattle.hex.specs.Hex.{encode_lower, lower_digits}
 use Rattle.hex.proofs.HexLemmas.{length-encode_with}
 use Rattle.edi_answers.specs.Hashes.{escaped_byte, escaped_name, is_escaped, mark_of}
-use Rattle.edi_manifest.specs.inner.Reading.{Lacks}
+use Rattle.edi_manifest.specs.inner.Reading.{HasNoByte}
 use Rattle.edi_manifest.proofs.LineTexts.{digits_lack_any}
 use Rattle.edi_changes.specs.ListText.{IsListLine, list_line, schema_word}
 use Rattle.edi_changes.specs.declared.list.ListLine.{ListLine}
@@ -32,13 +32,13 @@ shown_as x = go (eqb x 92) refl (eqb x 10) refl (eqb x 13) refl
     go false e false f true g = inr (inr (inl (eqb-true x 13 g, refl)))
     go false e false f false g = inr (inr (inr (eqb-false x 92 e, eqb-false x 10 f, refl)))
 
-shown_lacks : (x : ℕ) (text : List ℕ) → IsShownAs x text → Lacks 10 text
-shown_lacks x text (inl h) = subst (Lacks 10) (sym h.1) (search arith)
-shown_lacks x text (inr (inl h)) = subst (Lacks 10) (sym h.1) (search arith)
-shown_lacks x text (inr (inr (inl h))) = subst (Lacks 10) (sym h.1) (search arith)
-shown_lacks x text (inr (inr (inr h))) = subst (Lacks 10) (sym h.2) (h.1, tt)
+shown_lacks : (x : ℕ) (text : List ℕ) → IsShownAs x text → HasNoByte 10 text
+shown_lacks x text (inl h) = subst (HasNoByte 10) (sym h.1) (search arith)
+shown_lacks x text (inr (inl h)) = subst (HasNoByte 10) (sym h.1) (search arith)
+shown_lacks x text (inr (inr (inl h))) = subst (HasNoByte 10) (sym h.1) (search arith)
+shown_lacks x text (inr (inr (inr h))) = subst (HasNoByte 10) (sym h.2) (h.1, tt)
 
-pub escaped_lacks : (name : List ℕ) → Lacks 10 (escaped_name name)
+pub escaped_lacks : (name : List ℕ) → HasNoByte 10 (escaped_name name)
 escaped_lacks [] = tt
 escaped_lacks (x ∷ xs) = all_both (λ c. c ≢ 10) (escaped_byte x) (escaped_name xs) (shown_lacks x (escaped_byte x) (shown_as x)) (escaped_lacks xs)
 
@@ -60,15 +60,15 @@ line_is line =
     ap (λ t. word ++ (t ++ 10 ∷ [])) (append_assoc (marked ++ digits) (codes "  ") name ∙ append_assoc marked digits (codes "  " ++ name))
     ∙ sym (append_assoc word (behind_word line) (10 ∷ []))
 
-word_lacks : (b : Bool) → Lacks 10 (schema_word b)
+word_lacks : (b : Bool) → HasNoByte 10 (schema_word b)
 word_lacks true = search arith
 word_lacks false = tt
 
-mark_lacks : (b : Bool) → Lacks 10 (mark b)
+mark_lacks : (b : Bool) → HasNoByte 10 (mark b)
 mark_lacks true = search arith
 mark_lacks false = tt
 
-pub content_lacks : (line : ListLine) → Lacks 10 (content_of line)
+pub content_lacks : (line : ListLine) → HasNoByte 10 (content_of line)
 content_lacks line =
     all_both (λ c. c ≢ 10) (schema_word line.is_schema) (behind_word line) (word_lacks line.is_schema)
     (all_both (λ c. c ≢ 10) (mark_of line.name) (encode_lower line.digest ++ (codes "  " ++ escaped_name line.name)) (mark_lacks (list_any is_escaped line.name))
@@ -83,7 +83,7 @@ digits_long line h = twice (length (encode_lower line.digest)) (length line.dige
     twice : (digits bytes : ℕ) → digits ≡ 2 * bytes → bytes ≡ 32 → digits ≡ 64
     twice digits bytes a b = omega arith
 
-first_apart : (byte : ℕ) (xs ys : List ℕ) → Lacks byte xs → length xs ≡ 64 → slice_index (xs ++ ys) 0 ≢ byte
+first_apart : (byte : ℕ) (xs ys : List ℕ) → HasNoByte byte xs → length xs ≡ 64 → slice_index (xs ++ ys) 0 ≢ byte
 first_apart byte [] ys h long = absurd (omega (arith, long))
 first_apart byte (x ∷ xs) ys h long = h.0
 

@@ -3,7 +3,7 @@ use Rattle.std.proofs.Common.{◌≡◌, ◌≢◌, ◌∙◌, ◌+◌, ◌<◌,
 use Rattle.std.specs.List.{AllByRecursion}
 use Rattle.std.proofs.lemmas.Slice.Eq.{bytes_eq-Decides}
 use Rattle.edi_answers.specs.Hashes.{escaped_byte, escaped_name}
-use Rattle.edi_manifest.specs.inner.Reading.{Lacks}
+use Rattle.edi_manifest.specs.inner.Reading.{HasNoByte}
 use Rattle.edi_manifest.proofs.LineTexts.{cut_same}
 use Rattle.edi_manifest.proofs.ReadBack.{no_cut}
 use Rattle.edi_manifest.proofs.SameLines.{push_same}
@@ -133,12 +133,12 @@ none_read lines text e = record { todo = lines; cut = refl; left = sym e }
 pub line_behind : (line : ListLine) (lines : List ListLine) → list_text (line ∷ lines) ≡ content_of line ++ 10 ∷ list_text lines
 line_behind line lines = ap (λ t. t ++ list_text lines) (line_is line) ∙ append_assoc (content_of line) (10 ∷ []) (list_text lines)
 
-pub all_read : (lines found : List ListLine) (rest : List ℕ) → ReadUpTo lines found rest → Lacks 10 rest → found ≡ lines
+pub all_read : (lines found : List ListLine) (rest : List ℕ) → ReadUpTo lines found rest → HasNoByte 10 rest → found ≡ lines
 all_read lines found rest r lacks = go r.todo refl
   where
     go : (todo : List ListLine) → r.todo ≡ todo → found ≡ lines
     go [] e = sym (r.cut ∙ (ap (λ l. found ++ l) e ∙ append-nil found))
-    go (line ∷ more) e = absurd (no_cut 10 (content_of line) (list_text more) (subst (Lacks 10) (r.left ∙ (ap list_text e ∙ line_behind line more)) lacks))
+    go (line ∷ more) e = absurd (no_cut 10 (content_of line) (list_text more) (subst (HasNoByte 10) (r.left ∙ (ap list_text e ∙ line_behind line more)) lacks))
 
 behind_all : (P : ListLine → Type 0) (xs : List ListLine) (y : ListLine) (ys : List ListLine) → AllByRecursion P (xs ++ y ∷ ys) → P y
 behind_all P [] y ys h = h.0
@@ -156,7 +156,7 @@ nothing [] ys same = cc
 nothing (x ∷ xs) ys same = cc
 
 pub finds_next : (lines found : List ListLine) (rest : List ℕ) → AllByRecursion IsListLine lines → ReadUpTo lines found rest → (content behind : List ℕ)
-    → rest ≡ content ++ 10 ∷ behind → Lacks 10 content → FindsNext lines found content behind
+    → rest ≡ content ++ 10 ∷ behind → HasNoByte 10 content → FindsNext lines found content behind
 finds_next lines found rest all r content behind cut lacks = go r.todo refl
   where
     go : (todo : List ListLine) → r.todo ≡ todo → FindsNext lines found content behind

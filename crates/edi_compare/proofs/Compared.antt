@@ -1,7 +1,7 @@
 -- Two plans with one canonical file are carried one onto the other, and two with different files aren't.
 use Rattle.std.proofs.Common.{◌≡◌, ℕ, List, sym, ap, ◌∙◌, subst}
 use Rattle.std.specs.List.{slice_get}
-use Rattle.edi_line.specs.inner.Lines.{lines_of}
+use Rattle.edi_line.specs.inner.Lines.{lines_in}
 use Rattle.edi_line.proofs.Cut.{lines_unique}
 use Rattle.edi_schema.specs.Classes.{Classes, IsSchema}
 use Rattle.edi_plan.specs.Plans.{PlanData}
@@ -26,7 +26,7 @@ use Rattle.edi_compare.proofs.Phases.{one_plan as one_plan_of}
 use Rattle.edi_compare.proofs.Reading.{reading_is_one}
 
 not_equal : (c d : List ℕ) (line : ℕ) → IsFirstDifference c d line → c ≡ d → ⊥
-not_equal c d line first e = first.differ (ap (λ lines. slice_get lines first.place) (lines_unique c first.lines first.is_lines ∙ (ap lines_of e ∙ sym (lines_unique d first.others first.is_others))))
+not_equal c d line first e = first.differ (ap (λ lines. slice_get lines first.place) (lines_unique c first.lines first.is_lines ∙ (ap lines_in e ∙ sym (lines_unique d first.others first.is_others))))
 
 -- what is known of the form of a plan
 

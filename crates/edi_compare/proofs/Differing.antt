@@ -4,7 +4,7 @@ use Rattle.std.specs.List.{onto_first, slice_get}
 use Rattle.std.proofs.lemmas.Bool.{ne_eqb, cases_eq, cases_lt}
 use Rattle.std.proofs.lemmas.List.{drop_all}
 use Rattle.std.proofs.Math.Seq.{drop-cons}
-use Rattle.edi_line.specs.inner.Lines.{lines_of}
+use Rattle.edi_line.specs.inner.Lines.{lines_in}
 use Rattle.edi_line.proofs.Cut.{lines_exist}
 use Rattle.edi_compare.specs.Verdicts.{IsFirstDifference}
 
@@ -66,21 +66,21 @@ differ_behind line lines others place d = record { differ = d.differ; before = b
     before (suc k) h = d.before k (omega arith)
 
 -- the first line begins with the first byte
-begins : (c : ℕ) (cs : List ℕ) → (rest : List ℕ) × (get_or (lines_of (c ∷ cs)) 0 [] ≡ c ∷ rest)
+begins : (c : ℕ) (cs : List ℕ) → (rest : List ℕ) × (get_or (lines_in (c ∷ cs)) 0 [] ≡ c ∷ rest)
 begins c cs = go (eqb c 10) refl
   where
-    go : (b : Bool) → eqb c 10 ≡ b → (rest : List ℕ) × (get_or (lines_of (c ∷ cs)) 0 [] ≡ c ∷ rest)
+    go : (b : Bool) → eqb c 10 ≡ b → (rest : List ℕ) × (get_or (lines_in (c ∷ cs)) 0 [] ≡ c ∷ rest)
     go true e = ([], rw e refl)
-    go false e = (get_or (lines_of cs) 0 [], rw e (head_onto c (lines_of cs)))
+    go false e = (get_or (lines_in cs) 0 [], rw e (head_onto c (lines_in cs)))
 
 -- a byte more of both
 
-differ_fed : (x y : ℕ) (xs ys : List ℕ) (place : ℕ) → x ≡ 10 → y ≡ 10 → DifferAt (lines_of xs) (lines_of ys) place → DifferAt (lines_of (x ∷ xs)) (lines_of (y ∷ ys)) (suc place)
-differ_fed x y xs ys place feed feed' d = rw (feed, feed') (differ_behind (10 ∷ []) (lines_of xs) (lines_of ys) place d)
+differ_fed : (x y : ℕ) (xs ys : List ℕ) (place : ℕ) → x ≡ 10 → y ≡ 10 → DifferAt (lines_in xs) (lines_in ys) place → DifferAt (lines_in (x ∷ xs)) (lines_in (y ∷ ys)) (suc place)
+differ_fed x y xs ys place feed feed' d = rw (feed, feed') (differ_behind (10 ∷ []) (lines_in xs) (lines_in ys) place d)
 
-differ_unfed : (x y : ℕ) (xs ys : List ℕ) (place : ℕ) → x ≡ y → (x ≡ 10 → ⊥) → DifferAt (lines_of xs) (lines_of ys) place → DifferAt (lines_of (x ∷ xs)) (lines_of (y ∷ ys)) place
+differ_unfed : (x y : ℕ) (xs ys : List ℕ) (place : ℕ) → x ≡ y → (x ≡ 10 → ⊥) → DifferAt (lines_in xs) (lines_in ys) place → DifferAt (lines_in (x ∷ xs)) (lines_in (y ∷ ys)) place
 differ_unfed x y xs ys place same other d =
-    subst (λ c. DifferAt (lines_of (x ∷ xs)) (lines_of (c ∷ ys)) place) same (rw (ne_eqb x 10 other) (differ_onto x (lines_of xs) (lines_of ys) place d))
+    subst (λ c. DifferAt (lines_in (x ∷ xs)) (lines_in (c ∷ ys)) place) same (rw (ne_eqb x 10 other) (differ_onto x (lines_in xs) (lines_in ys) place d))
 
 later : (line x y : ℕ) (xs ys : List ℕ) (n : ℕ) → x ≡ y → differ_from line (x ∷ xs) (y ∷ ys) ≡ Some n → differ_from (cond (eqb x 10) (line + 1) line) xs ys ≡ Some n
 later line x y xs ys n same e = sym (ap (λ b. cond b (differ_from (cond (eqb x 10) (line + 1) line) xs ys) (Some line)) (eq-eqb x y same)) ∙ e
@@ -90,9 +90,9 @@ later line x y xs ys n same e = sym (ap (λ b. cond b (differ_from (cond (eqb x 
 pub record Found (line : ℕ) (xs ys : List ℕ) (n : ℕ) : Type 0 where
   pub place : ℕ
   pub counts : n ≡ line + place
-  pub differ : DifferAt (lines_of xs) (lines_of ys) place
+  pub differ : DifferAt (lines_in xs) (lines_in ys) place
 
-here : (line : ℕ) (xs ys : List ℕ) (n : ℕ) → line ≡ n → get_or (lines_of xs) 0 [] ≢ get_or (lines_of ys) 0 [] → Found line xs ys n
+here : (line : ℕ) (xs ys : List ℕ) (n : ℕ) → line ≡ n → get_or (lines_in xs) 0 [] ≢ get_or (lines_in ys) 0 [] → Found line xs ys n
 here line xs ys n e ne = record { place = 0; counts = omega (arith, e); differ = record { differ = ne; before = λ k h. absurd (omega arith) } }
 
 pub found : (line : ℕ) (xs ys : List ℕ) (n : ℕ) → differ_from line xs ys ≡ Some n → Found line xs ys n
@@ -134,13 +134,13 @@ pub first_difference : (xs ys : List ℕ) (n : ℕ) → differ_from 1 xs ys ≡ 
 first_difference xs ys n e =
     let f = found 1 xs ys n e in
     record {
-      lines = lines_of xs;
-      others = lines_of ys;
+      lines = lines_in xs;
+      others = lines_in ys;
       place = f.place;
       is_lines = lines_exist xs;
       is_others = lines_exist ys;
       counts = omega (arith, f.counts);
-      differ = λ same. f.differ.differ (line_read (lines_of xs) (lines_of ys) f.place same);
+      differ = λ same. f.differ.differ (line_read (lines_in xs) (lines_in ys) f.place same);
       before = f.differ.before;
     }
   where

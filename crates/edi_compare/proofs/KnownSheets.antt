@@ -15,8 +15,8 @@ use Rattle.edi_line.proofs.KnownFiles.{first_fault, refused_as}
 use Rattle.edi_record.specs.Rows.{the_node}
 use Rattle.edi_record.specs.Texts.{pointer_text, point_text}
 use Rattle.edi_record.specs.declared.sheet.Sheet.{Sheet}
-use Rattle.edi_record.specs.inner.Records.{set_after, value_after, attributes, sns_after, ends, placed}
-use Rattle.edi_record.specs.inner.Texts.{pointer, point, count}
+use Rattle.edi_record.specs.inner.Records.{set_after, value_after, attributes, sns_after, ends, zones_placed}
+use Rattle.edi_record.specs.inner.Texts.{pointer, point_in, count}
 use Rattle.edi_schema.specs.Classes.{IsSchema}
 use Rattle.edi_plan.specs.Plans.{PlanData, IsPlace}
 use Rattle.edi_plan.specs.inner.Resolving.{is_elsewhere}
@@ -52,7 +52,7 @@ unfolding reading_of has_head
 sheet_lines = refl
 
 sheet_read : is_read node_sheet the_sheet.list ≡ to_read the_sheet.list
-unfolding reading_of has_head number whole_number fraction_number pointer point set_after value_after attributes sns_after ends placed
+unfolding reading_of has_head number whole_number fraction_number pointer point_in set_after value_after attributes sns_after ends zones_placed
 sheet_read = refl
 
 states_sheet : IsSheetOf node_sheet the_sheet
@@ -60,7 +60,7 @@ unfolding reading_of has_head
 states_sheet = sheet_as node_sheet the_sheet sheet_lines refl sheet_read
 
 sheet_groups : list_all keeps_rules (groups_of (zones_of node_sheet)) ≡ true
-unfolding reading_of has_head number whole_number fraction_number pointer point count placed
+unfolding reading_of has_head number whole_number fraction_number pointer point_in count zones_placed
 sheet_groups = refl
 
 pub states_node : IsPlanOfFile node_classes node_sheet node_plan

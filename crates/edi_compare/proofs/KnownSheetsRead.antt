@@ -22,8 +22,8 @@ use Rattle.edi_record.specs.declared.record.Point.{Point}
 use Rattle.edi_record.specs.declared.record.Record.{Record}
 use Rattle.edi_record.specs.declared.sheet.Sheet.{Sheet}
 use Rattle.edi_record.specs.inner.RecordRules.{record_tests, FailsTest}
-use Rattle.edi_record.specs.inner.Records.{ReadsAs, attributes, ends, extras}
-use Rattle.edi_record.specs.inner.Texts.{class_of, point}
+use Rattle.edi_record.specs.inner.Records.{ReadsAsRecord, attributes, ends, extras}
+use Rattle.edi_record.specs.inner.Texts.{class_of, point_in}
 use Rattle.edi_record.proofs.RulesSaid.{records_unbroken}
 use Rattle.edi_record.proofs.StatesSaid.{states_said}
 use Rattle.edi_schema.specs.Classes.{Classes, place_of, role_named}
@@ -73,7 +73,7 @@ found kind group = record {
   type = values (codes "RTY") group;
   rid = values (codes "RID") group;
   scp = map class_of (values (codes "SCP") group);
-  points = cond (has_points kind) (map point (values (codes "COR") group)) [];
+  points = cond (has_points kind) (map point_in (values (codes "COR") group)) [];
   ends = cond (is_link kind) (Rattle.edi_record.specs.inner.Records.ends group) [];
   attributes = Rattle.edi_record.specs.inner.Records.attributes group;
   extras = Rattle.edi_record.specs.inner.Records.extras kind group;
@@ -90,7 +90,7 @@ wanted r = record {
   extras = r.extras;
 }
 
-read_as : (group : List ZoneData) (r : Record) → found r.kind group ≡ wanted r → ReadsAs group r
+read_as : (group : List ZoneData) (r : Record) → found r.kind group ≡ wanted r → ReadsAsRecord group r
 read_as group r e = record {
   type = ap (λ (p : Parts). p.type) e;
   rid = ap (λ (p : Parts). p.rid) e;

@@ -20,7 +20,7 @@ use Rattle.edi_plan.specs.Plans.{same_kind, kind_rank, first_of}
 use Rattle.edi_plan.specs.PlanOf.{own_name, place_named}
 use Rattle.edi_plan.specs.ReferenceRules.{BreaksReferenceRule, IsRecordAt, Names, IsLinkOfRole, JoinsArcTo}
 use Rattle.edi_plan.specs.ReferenceRules.BreaksReferenceRule.{repeats_name, lacks_class, lacks_attribute_class, leaves_subset, names_nothing, joins_wrong, repeats_side}
-use Rattle.edi_plan.specs.inner.Resolving.{LacksClass, lacks_class as lacks_class_of, leaves, first_subset, is_elsewhere}
+use Rattle.edi_plan.specs.inner.Resolving.{HasNoAttributeClass, lacks_class as lacks_class_of, leaves, first_subset, is_elsewhere}
 use Rattle.edi_plan.proofs.Built.{both_true}
 use Rattle.edi_plan.proofs.PlaceLemmas.{one_kind}
 use Rattle.edi_plan.proofs.RuleLemmas.{any_true, lacks_true, elsewhere_true}
@@ -217,7 +217,7 @@ module _ (s : Classes) (list : List Record) where
   references_as e rule place (repeats_name _ h) = unless _ (at_two other_names h.0 place h.1 h.2 e.names h.3 h.4 h.5) (same_name (own_name h.1) (own_name h.2) h.6)
   references_as e rule place (lacks_class _ h) = true≢false (sym (at (λ (r : Record). is_some (place_of s r.scp)) place h.0 e.classes h.1) ∙ ap is_some h.2)
   references_as e rule place (lacks_attribute_class _ h) =
-      unless _ (at (λ (r : Record). not (list_any (lacks_class_of s) r.attributes)) place h.0 e.attributes h.1) (any_true (LacksClass s) (lacks_class_of s) (lacks_true s) h.0.attributes h.2)
+      unless _ (at (λ (r : Record). not (list_any (lacks_class_of s) r.attributes)) place h.0 e.attributes h.1) (any_true (HasNoAttributeClass s) (lacks_class_of s) (lacks_true s) h.0.attributes h.2)
   references_as e rule place (leaves_subset _ h) = unless _ (at (λ (r : Record). not (leaves (first_subset list) r.ends)) place h.0 e.subsets h.3) (subset h.0 h.1 h.2 h.4 h.5)
   references_as e rule place (names_nothing _ h) =
       unless _ (at (λ (r : Record). not (list_any is_lost r.ends)) place h.0 e.ends h.1)

@@ -15,8 +15,8 @@ use Rattle.edi_line.proofs.KnownFiles.{first_fault, refused_as, unbroken_as}
 use Rattle.edi_record.specs.declared.record.Kind.TheVariants.{Pfe, Fea, Lnk}
 use Rattle.edi_record.specs.declared.record.Record.{Record}
 use Rattle.edi_record.specs.declared.sheet.Sheet.{Sheet}
-use Rattle.edi_record.specs.inner.Records.{set_after, value_after, attributes, sns_after, ends, placed}
-use Rattle.edi_record.specs.inner.Texts.{pointer, point, count}
+use Rattle.edi_record.specs.inner.Records.{set_after, value_after, attributes, sns_after, ends, zones_placed}
+use Rattle.edi_record.specs.inner.Texts.{pointer, point_in, count}
 use Rattle.edi_record.proofs.RowsHold.{wrong_count}
 use Rattle.edi_schema.specs.Classes.{Classes}
 use Rattle.edi_schema.specs.declared.role.Role.{Role}
@@ -69,7 +69,7 @@ unfolding reading_of has_head
 face_lines_hold = refl
 
 face_read : is_read lone_face_sheet face_sheet.list ≡ to_read face_sheet.list
-unfolding reading_of has_head number whole_number fraction_number pointer point set_after value_after attributes sns_after ends placed
+unfolding reading_of has_head number whole_number fraction_number pointer point_in set_after value_after attributes sns_after ends zones_placed
 face_read = refl
 
 face_states_sheet : IsSheetOf lone_face_sheet face_sheet
@@ -77,7 +77,7 @@ unfolding reading_of has_head
 face_states_sheet = sheet_as lone_face_sheet face_sheet face_lines_hold refl face_read
 
 face_groups_hold : list_all keeps_rules (groups_of (zones_of lone_face_sheet)) ≡ true
-unfolding reading_of has_head number whole_number fraction_number pointer point count placed
+unfolding reading_of has_head number whole_number fraction_number pointer point_in count zones_placed
 face_groups_hold = refl
 
 face_records_hold : (s : Classes) → RecordsHold s lone_face_sheet
@@ -169,7 +169,7 @@ unfolding reading_of has_head
 objects_lines_hold = refl
 
 objects_read : is_read equal_objects_sheet objects_sheet.list ≡ to_read objects_sheet.list
-unfolding reading_of has_head number whole_number fraction_number pointer point set_after value_after attributes sns_after ends placed
+unfolding reading_of has_head number whole_number fraction_number pointer point_in set_after value_after attributes sns_after ends zones_placed
 objects_read = refl
 
 objects_states_sheet : IsSheetOf equal_objects_sheet objects_sheet
@@ -177,7 +177,7 @@ unfolding reading_of has_head
 objects_states_sheet = sheet_as equal_objects_sheet objects_sheet objects_lines_hold refl objects_read
 
 objects_groups_hold : list_all keeps_rules (groups_of (zones_of equal_objects_sheet)) ≡ true
-unfolding reading_of has_head number whole_number fraction_number pointer point count placed
+unfolding reading_of has_head number whole_number fraction_number pointer point_in count zones_placed
 objects_groups_hold = refl
 
 objects_states : IsPlanOfFile arc_classes equal_objects_sheet objects_plan

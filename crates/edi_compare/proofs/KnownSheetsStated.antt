@@ -14,8 +14,8 @@ use Rattle.edi_record.specs.declared.record.Kind.TheVariants.{Pno, Par, Pfe, Fea
 use Rattle.edi_record.specs.declared.record.Point.{Point}
 use Rattle.edi_record.specs.declared.record.Record.{Record}
 use Rattle.edi_record.specs.declared.sheet.Sheet.{Sheet}
-use Rattle.edi_record.specs.inner.Records.{set_after, value_after, attributes, sns_after, ends, placed}
-use Rattle.edi_record.specs.inner.Texts.{pointer, point, count}
+use Rattle.edi_record.specs.inner.Records.{set_after, value_after, attributes, sns_after, ends, zones_placed}
+use Rattle.edi_record.specs.inner.Texts.{pointer, point_in, count}
 use Rattle.edi_compare.specs.Known.{arc_classes, position, turned_arc_sheet, turned_arc_plan, exchanged_sheet, exchanged_plan, reversed_arc_sheet, reversed_arc_plan}
 use Rattle.edi_compare.specs.PlanOfFile.{IsSheetOf, IsPlanOfFile, StateSame}
 use Rattle.edi_compare.specs.Rules.{RecordsHold}
@@ -58,7 +58,7 @@ unfolding reading_of has_head
 arc_lines_hold = refl
 
 arc_read : is_read turned_arc_sheet arc_sheet.list ≡ to_read arc_sheet.list
-unfolding reading_of has_head number whole_number fraction_number pointer point set_after value_after attributes sns_after ends placed
+unfolding reading_of has_head number whole_number fraction_number pointer point_in set_after value_after attributes sns_after ends zones_placed
 arc_read = refl
 
 pub arc_states_sheet : IsSheetOf turned_arc_sheet arc_sheet
@@ -66,7 +66,7 @@ unfolding reading_of has_head
 arc_states_sheet = sheet_as turned_arc_sheet arc_sheet arc_lines_hold refl arc_read
 
 arc_groups_hold : list_all keeps_rules (groups_of (zones_of turned_arc_sheet)) ≡ true
-unfolding reading_of has_head number whole_number fraction_number pointer point count placed
+unfolding reading_of has_head number whole_number fraction_number pointer point_in count zones_placed
 arc_groups_hold = refl
 
 pub arc_records_hold : RecordsHold arc_classes turned_arc_sheet
@@ -85,7 +85,7 @@ unfolding reading_of has_head
 exchanged_lines_hold = refl
 
 exchanged_read : is_read exchanged_sheet exchanged_records.list ≡ to_read exchanged_records.list
-unfolding reading_of has_head number whole_number fraction_number pointer point set_after value_after attributes sns_after ends placed
+unfolding reading_of has_head number whole_number fraction_number pointer point_in set_after value_after attributes sns_after ends zones_placed
 exchanged_read = refl
 
 pub exchanged_states_sheet : IsSheetOf exchanged_sheet exchanged_records
@@ -93,7 +93,7 @@ unfolding reading_of has_head
 exchanged_states_sheet = sheet_as exchanged_sheet exchanged_records exchanged_lines_hold refl exchanged_read
 
 exchanged_groups_hold : list_all keeps_rules (groups_of (zones_of exchanged_sheet)) ≡ true
-unfolding reading_of has_head number whole_number fraction_number pointer point count placed
+unfolding reading_of has_head number whole_number fraction_number pointer point_in count zones_placed
 exchanged_groups_hold = refl
 
 pub exchanged_records_hold : RecordsHold arc_classes exchanged_sheet
@@ -136,7 +136,7 @@ unfolding reading_of has_head
 reversed_lines_hold = refl
 
 reversed_read : is_read reversed_arc_sheet reversed_records.list ≡ to_read reversed_records.list
-unfolding reading_of has_head number whole_number fraction_number pointer point set_after value_after attributes sns_after ends placed
+unfolding reading_of has_head number whole_number fraction_number pointer point_in set_after value_after attributes sns_after ends zones_placed
 reversed_read = refl
 
 pub reversed_states_sheet : IsSheetOf reversed_arc_sheet reversed_records
@@ -144,7 +144,7 @@ unfolding reading_of has_head
 reversed_states_sheet = sheet_as reversed_arc_sheet reversed_records reversed_lines_hold refl reversed_read
 
 reversed_groups_hold : list_all keeps_rules (groups_of (zones_of reversed_arc_sheet)) ≡ true
-unfolding reading_of has_head number whole_number fraction_number pointer point count placed
+unfolding reading_of has_head number whole_number fraction_number pointer point_in count zones_placed
 reversed_groups_hold = refl
 
 pub reversed_records_hold : RecordsHold arc_classes reversed_arc_sheet

@@ -5,7 +5,7 @@ use Rattle.edi_line.specs.LineRules.{BreaksIn, BreaksLineRule, line_tests, IsZon
 use Rattle.edi_line.specs.Refusal.{IsUnbroken, IsLeastBroken, BreaksTest}
 use Rattle.edi_line.specs.Spelling.{Reading}
 use Rattle.edi_line.specs.inner.Spelling.{reading_of}
-use Rattle.edi_line.specs.inner.Lines.{contents_of}
+use Rattle.edi_line.specs.inner.Lines.{line_contents}
 use Rattle.edi_line.proofs.Heads.{reading_rule_below}
 use Rattle.edi_line.specs.inner.Zones.{readings_of}
 use Rattle.edi_line.proofs.Readings.{rule_read}
@@ -54,7 +54,7 @@ pub line_rule_below : (b : List ℕ) (rule place : ℕ) → BreaksLineRule b rul
 line_rule_below b rule place broken = go (rule_read b rule place broken)
   where
     go : BreaksIn (readings_of b) rule place → rule < 200
-    go (inl h) = let c = mapped reading_of (contents_of b) h.before h.line h.after h.cut in here_below c.0 h.before h.line rule c.1 h.breaks
+    go (inl h) = let c = mapped reading_of (line_contents b) h.before h.line h.after h.cut in here_below c.0 h.before h.line rule c.1 h.breaks
     go (inr h) = omega (arith, h.rule_is)
 
 pub group_above : (group : List ZoneData) (rule : ℕ) → BreaksGroupRule group rule → 200 ≤ rule

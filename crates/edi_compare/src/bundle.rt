@@ -1,7 +1,7 @@
 //! Three files one after the other.
 ghost use Rattle.std.specs.Prelude.{◌≡◌, ◌≤◌, ◌<◌, ◌∷◌, ◌==◌, length, take, drop, position};
 ghost use Rattle.std.specs.List.{concat};
-ghost use Rattle.edi_line.specs.inner.Lines.{lines_of};
+ghost use Rattle.edi_line.specs.inner.Lines.{lines_in};
 ghost use Rattle.edi_compare.specs.Bundle.{AreParts, first_file, later_files};
 
 /// The files of a bundle, each empty where the bundle ends before it.
@@ -24,8 +24,8 @@ pub fn bundle_of(bytes: &[u8]) -> Bundle<'_>
 // Where the first file ends.
 fn file_len(bytes: &[u8]) -> usize
     ensures within { result ≤ length bytes.now }
-    ensures file { take result bytes.now ≡ concat (first_file (lines_of bytes.now)) }
-    ensures rest { lines_of (drop result bytes.now) ≡ later_files (lines_of bytes.now) }
+    ensures file { take result bytes.now ≡ concat (first_file (lines_in bytes.now)) }
+    ensures rest { lines_in (drop result bytes.now) ≡ later_files (lines_in bytes.now) }
 {
     let mut at = 0;
     while at < bytes.len() {
@@ -44,7 +44,7 @@ fn line_len(bytes: &[u8]) -> usize
     requires { 0 < length bytes.now }
     ensures positive { 0 < result }
     ensures within { result ≤ length bytes.now }
-    ensures line { lines_of bytes.now ≡ take result bytes.now ∷ lines_of (drop result bytes.now) }
+    ensures line { lines_in bytes.now ≡ take result bytes.now ∷ lines_in (drop result bytes.now) }
 {
     match feed_in(bytes) {
         Some(feed) => feed + 1,

@@ -15,11 +15,11 @@ use Rattle.edi_delivery.specs.DeliveryRefusal.{IsDeliveryOf}
 use Rattle.edi_delivery.specs.Known.{IsRefusedBy}
 use Rattle.edi_delivery.specs.inner.LotTests.{lot_tests}
 use Rattle.edi_delivery.specs.inner.Noted.{take_tests}
-use Rattle.edi_delivery.specs.inner.Taken.{IsTaken, IsLeastHere}
+use Rattle.edi_delivery.specs.inner.Taken.{AreTakenLots, IsLeastHere}
 use Rattle.edi_delivery.specs.declared.lot.Lot.{Lot}
 use Rattle.edi_delivery.proofs.Read.{support_taken, own_least, take_least, unknown_least, lot_taken, least_there, some_lot, lacks_least}
 
-none_taken : IsTaken [] []
+none_taken : AreTakenLots [] []
 none_taken = record { states = tt; sound = λ rule place b. no_cut_of_none b.before b.group b.after b.cut }
 
 -- no line breaks a rule
@@ -32,10 +32,10 @@ record_of bytes n = get_or (groups_of (zones_of bytes)) n []
 
 -- a file with a support, which comes first
 module _ (bytes : List ℕ) (lines : HasSoundLines bytes) (s : List ZoneData) (support : is_support s ≡ true) where
-  after_support : IsTaken (s ∷ []) []
+  after_support : AreTakenLots (s ∷ []) []
   after_support = support_taken [] s [] support none_taken
 
-  refused : (before : List (List ZoneData)) (lots : List Lot) (g : List ZoneData) (after : List (List ZoneData)) (rule : ℕ) → groups_of (zones_of bytes) ≡ before ++ g ∷ after → IsTaken before lots
+  refused : (before : List (List ZoneData)) (lots : List Lot) (g : List ZoneData) (after : List (List ZoneData)) (rule : ℕ) → groups_of (zones_of bytes) ≡ before ++ g ∷ after → AreTakenLots before lots
       → IsLeastHere before g rule → IsRefusedBy bytes rule (length before + 1)
   refused before lots g after rule groups taken least =
       (unbroken_as bytes lines, (zones_of bytes, zones_as bytes (zones_of bytes) lines refl, least_there (groups_of (zones_of bytes)) before after g lots rule (length before + 1) groups refl taken least))
@@ -53,7 +53,7 @@ module _ (bytes : List ℕ) (lines : HasSoundLines bytes) (s : List ZoneData) (s
   known_twice g lot groups is states own broken = refused (s ∷ []) [] g [] 710 groups after_support (take_least (s ∷ []) g [] after_support is lot states own 710 broken)
 
   module _ (g : List ZoneData) (lot : Lot) (is : is_lot g ≡ true) (states : StatesLot g lot) (own : first_broken (lot_tests g) ≡ None) (apart : first_broken (take_tests [] lot) ≡ None) where
-    after_lot : IsTaken (s ∷ g ∷ []) (lot ∷ [])
+    after_lot : AreTakenLots (s ∷ g ∷ []) (lot ∷ [])
     after_lot = lot_taken (s ∷ []) g [] after_support is lot states own (lot ∷ []) apart refl
 
     -- it states the one lot

@@ -23,7 +23,7 @@ use Rattle.edi_delivery.specs.DeliveryRules.BreaksBehind.{unknown, of_lot}
 use Rattle.edi_delivery.specs.inner.LotTests.{lot_tests}
 use Rattle.edi_delivery.specs.inner.Noted.{repeats_name, repeats_file, take_tests}
 use Rattle.edi_delivery.specs.inner.Steps.{IfRule}
-use Rattle.edi_delivery.specs.inner.Taken.{IsTaken, IsLeastHere, lot_fault_at}
+use Rattle.edi_delivery.specs.inner.Taken.{AreTakenLots, IsLeastHere, lot_fault_at}
 use Rattle.edi_delivery.specs.declared.lot.Lot.{Lot}
 use Rattle.edi_delivery.specs.declared.fault.LotFault.{LotFault}
 use Rattle.edi_delivery.specs.declared.fault.LotFault.TheVariants.{Memory as LotMemory, Broken as LotBroken}
@@ -66,7 +66,7 @@ no_support group e =
     let same : unwrap_or (first (values (codes "RTY") group)) [] ≡ codes "GTS" = (bytes_eq-Decides (unwrap_or (first (values (codes "RTY") group)) []) (codes "GTS")).0 e in
     ap (λ t. bytes_eq t (codes "GTL")) same
 
-pub support_taken : (before : List (List ZoneData)) (group : List ZoneData) (lots : List Lot) → is_support group ≡ true → IsTaken before lots → IsTaken (before ++ group ∷ []) lots
+pub support_taken : (before : List (List ZoneData)) (group : List ZoneData) (lots : List Lot) → is_support group ≡ true → AreTakenLots before lots → AreTakenLots (before ++ group ∷ []) lots
 support_taken before group lots e h = record {
   states = same_states before group lots (no_support group e) h.states;
   sound = push_sound before group h.sound here;
@@ -76,7 +76,7 @@ support_taken before group lots e h = record {
     here rule (unknown is support lot) = both_ways _ support e
     here rule (of_lot lot b) = both_ways _ (no_support group e) lot
 
-module _ (before : List (List ZoneData)) (group : List ZoneData) (lots : List Lot) (h : IsTaken before lots) where
+module _ (before : List (List ZoneData)) (group : List ZoneData) (lots : List Lot) (h : AreTakenLots before lots) where
   pub unknown_least : is_support group ≡ false → is_lot group ≡ false → IsLeastHere before group 701
   unknown_least support lot = record { breaks = unknown refl support lot; least = least }
     where
@@ -123,8 +123,8 @@ module _ (before : List (List ZoneData)) (group : List ZoneData) (lots : List Lo
             least = λ r b. found.least r (repeats_test r (test_of before lots h.states group r (by_rule r b)));
           }
 
-      pub lot_taken : (new : List Lot) → first_broken (take_tests lots lot) ≡ None → new ≡ lots ++ lot ∷ [] → IsTaken (before ++ group ∷ []) new
-      lot_taken new e pushed = subst (IsTaken (before ++ group ∷ [])) (sym pushed) (record {
+      pub lot_taken : (new : List Lot) → first_broken (take_tests lots lot) ≡ None → new ≡ lots ++ lot ∷ [] → AreTakenLots (before ++ group ∷ []) new
+      lot_taken new e pushed = subst (AreTakenLots (before ++ group ∷ [])) (sym pushed) (record {
         states = push_states before group lots lot is h.states states;
         sound = push_sound before group h.sound (λ r b. none_broken (take_tests lots lot) e r (repeats_test r (test_of before lots h.states group r (by_rule r b))));
       })
@@ -136,14 +136,14 @@ pub record SoFar (zones rest : List ZoneData) (at : ℕ) (lots : List Lot) : Typ
   pub done : List (List ZoneData)
   pub cut : groups_of zones ≡ done ++ groups_of rest
   pub counted : at ≡ length done
-  pub taken : IsTaken done lots
+  pub taken : AreTakenLots done lots
 
 pub none_read : (zones : List ZoneData) (lots : List Lot) → lots ≡ [] → SoFar zones zones 0 lots
 none_read zones lots none = record {
   done = [];
   cut = refl;
   counted = refl;
-  taken = subst (IsTaken []) (sym none) (record { states = tt; sound = λ rule place b. no_cut_of_none b.before b.group b.after b.cut });
+  taken = subst (AreTakenLots []) (sym none) (record { states = tt; sound = λ rule place b. no_cut_of_none b.before b.group b.after b.cut });
 }
 
 abbrev behind : List Zone → List Zone
@@ -168,7 +168,7 @@ group_lacks (z ∷ zs) some e = go (begins_group (entry z)) refl e
     go false b e = rw (b, take_all (length (z ∷ zs) - 1) zs (omega arith)) refl
 
 pub one_read : (zones : List ZoneData) (rest : List Zone) (at : ℕ) (lots new : List Lot) (g : List ZoneData) → SoFar zones (entries rest) at lots → Some g ≡ group_at (entries rest)
-    → ((before : List (List ZoneData)) → IsTaken before lots → IsTaken (before ++ g ∷ []) new) → SoFar zones (entries (behind rest)) (at + 1) new
+    → ((before : List (List ZoneData)) → AreTakenLots before lots → AreTakenLots (before ++ g ∷ []) new) → SoFar zones (entries (behind rest)) (at + 1) new
 one_read zones rest at lots new g h here more = record {
   done = h.done ++ g ∷ [];
   cut = h.cut ∙ (ap (λ t. h.done ++ t) (group_found rest g here) ∙ sym (append_assoc h.done (g ∷ []) (groups_of (entries (behind rest)))));
@@ -181,7 +181,7 @@ none_more zones rest at lots some h here = record { done = h.done; cut = h.cut �
 
 -- ---- the least of the broken rules
 
-pub least_there : (groups before after : List (List ZoneData)) (group : List ZoneData) (lots : List Lot) (rule place : ℕ) → groups ≡ before ++ group ∷ after → place ≡ length before + 1 → IsTaken before lots
+pub least_there : (groups before after : List (List ZoneData)) (group : List ZoneData) (lots : List Lot) (rule place : ℕ) → groups ≡ before ++ group ∷ after → place ≡ length before + 1 → AreTakenLots before lots
     → IsLeastHere before group rule → IsLeastBroken (BreaksDeliveryRule groups) rule place
 least_there groups before after group lots rule place cut place_is taken here = record {
   is = inl (record { before = before; group = group; after = after; cut = cut; place_is = place_is; breaks = here.breaks });
@@ -200,7 +200,7 @@ least_there groups before after group lots rule place cut place_is taken here = 
     least r p (inr b) = inl (omega (arith, place_is, b.place_is, ap length cut, length-append before (group ∷ after)))
 
 pub refused_there : (zones : List ZoneData) (rest : List Zone) (at : ℕ) (lots : List Lot) (g : List ZoneData) (fault : LotFault) (result : RecordFault) → SoFar zones (entries rest) at lots → Some g ≡ group_at (entries rest)
-    → IfRule (λ rule. (before : List (List ZoneData)) → IsTaken before lots → IsLeastHere before g rule) fault → result ≡ lot_fault_at (at + 1) fault → IsRecordRefusal (BreaksDeliveryRule (groups_of zones)) result
+    → IfRule (λ rule. (before : List (List ZoneData)) → AreTakenLots before lots → IsLeastHere before g rule) fault → result ≡ lot_fault_at (at + 1) fault → IsRecordRefusal (BreaksDeliveryRule (groups_of zones)) result
 refused_there zones rest at lots g (LotMemory e) result h here least is = subst (IsRecordRefusal (BreaksDeliveryRule (groups_of zones))) (sym is) tt
 refused_there zones rest at lots g (LotBroken rule) result h here least is =
     subst (IsRecordRefusal (BreaksDeliveryRule (groups_of zones))) (sym is)
@@ -228,7 +228,7 @@ some_lot (g ∷ gs) l ls h = go (is_lot g) refl h (some_lot gs l ls)
     go true e h more = rw e refl
     go false e h more = rw e (more h)
 
-pub lacks_least : (groups done : List (List ZoneData)) (lots : List Lot) (place : ℕ) → groups ≡ done → IsTaken done lots → lots ≡ [] → place ≡ length done + 1 → IsLeastBroken (BreaksDeliveryRule groups) 711 place
+pub lacks_least : (groups done : List (List ZoneData)) (lots : List Lot) (place : ℕ) → groups ≡ done → AreTakenLots done lots → lots ≡ [] → place ≡ length done + 1 → IsLeastBroken (BreaksDeliveryRule groups) 711 place
 lacks_least groups done lots place all taken empty place_is =
     let lacks : list_any is_lot groups ≡ false = ap (list_any is_lot) all ∙ no_lots done (subst (StatesLots done) empty taken.states) in
     record {

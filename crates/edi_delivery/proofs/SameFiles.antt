@@ -8,7 +8,7 @@ use Rattle.std.proofs.lemmas.List.{append_assoc, append-nil}
 use Rattle.std.proofs.lemmas.List.Folds.{list_any-append}
 use Rattle.edi_delivery.specs.NameParts.{is_same_name}
 use Rattle.edi_delivery.specs.Lots.{files_of}
-use Rattle.edi_delivery.specs.inner.Steps.{repeats}
+use Rattle.edi_delivery.specs.inner.Steps.{repeats_earlier}
 use Rattle.edi_delivery.specs.inner.Noted.{lower_files, repeats_file}
 use Rattle.edi_delivery.specs.declared.lot.Lot.{Lot}
 use Rattle.edi_delivery.proofs.Repeats.{any_map}
@@ -54,17 +54,17 @@ any_same : {X : Type 0} (p q : X → Bool) → ((x : X) → p x ≡ q x) → (xs
 any_same p q same [] = refl
 any_same p q same (x ∷ xs) = ap (λ b. b || list_any p xs) (same x) ∙ ap (λ b. q x || b) (any_same p q same xs)
 
--- ---- repeats within a list, and of another
+-- ---- repeats_earlier within a list, and of another
 
-repeats_parts : (ks es xs : List (List ℕ)) → repeats (ks ++ es) xs ≡ (list_any (λ x. list_any (bytes_eq x) ks) xs || repeats es xs)
+repeats_parts : (ks es xs : List (List ℕ)) → repeats_earlier (ks ++ es) xs ≡ (list_any (λ x. list_any (bytes_eq x) ks) xs || repeats_earlier es xs)
 repeats_parts ks es [] = refl
 repeats_parts ks es (x ∷ xs) =
-    ap (λ b. b || repeats ((ks ++ es) ++ x ∷ []) xs) (list_any-append (bytes_eq x) ks es)
-    ∙ (ap (λ b. (list_any (bytes_eq x) ks || list_any (bytes_eq x) es) || b) (ap (λ t. repeats t xs) (append_assoc ks es (x ∷ [])) ∙ repeats_parts ks (es ++ x ∷ []) xs)
-    ∙ or_exchange (list_any (bytes_eq x) ks) (list_any (bytes_eq x) es) (list_any (λ y. list_any (bytes_eq y) ks) xs) (repeats (es ++ x ∷ []) xs))
+    ap (λ b. b || repeats_earlier ((ks ++ es) ++ x ∷ []) xs) (list_any-append (bytes_eq x) ks es)
+    ∙ (ap (λ b. (list_any (bytes_eq x) ks || list_any (bytes_eq x) es) || b) (ap (λ t. repeats_earlier t xs) (append_assoc ks es (x ∷ [])) ∙ repeats_parts ks (es ++ x ∷ []) xs)
+    ∙ or_exchange (list_any (bytes_eq x) ks) (list_any (bytes_eq x) es) (list_any (λ y. list_any (bytes_eq y) ks) xs) (repeats_earlier (es ++ x ∷ []) xs))
 
-repeats_cut : (ks xs : List (List ℕ)) → repeats ks xs ≡ (list_any (λ x. list_any (bytes_eq x) ks) xs || repeats [] xs)
-repeats_cut ks xs = ap (λ t. repeats t xs) (sym (append-nil ks)) ∙ repeats_parts ks [] xs
+repeats_cut : (ks xs : List (List ℕ)) → repeats_earlier ks xs ≡ (list_any (λ x. list_any (bytes_eq x) ks) xs || repeats_earlier [] xs)
+repeats_cut ks xs = ap (λ t. repeats_earlier t xs) (sym (append-nil ks)) ∙ repeats_parts ks [] xs
 
 pub bytes_turned : (xs ys : List ℕ) → bytes_eq xs ys ≡ bytes_eq ys xs
 bytes_turned xs ys = go (bytes_eq xs ys) refl (bytes_eq ys xs) refl
@@ -83,15 +83,15 @@ is_none : (x : List ℕ) (xs : List (List ℕ)) → AllByRecursion (λ y. bytes_
 is_none x [] h = refl
 is_none x (y ∷ ys) h = let here : bytes_eq y x ≡ false = bytes_turned y x ∙ h.0 in rw here (is_none x ys h.1)
 
-distinct_bytes : (xs : List (List ℕ)) → repeats [] xs ≡ false → IsDistinct bytes_eq xs
+distinct_bytes : (xs : List (List ℕ)) → repeats_earlier [] xs ≡ false → IsDistinct bytes_eq xs
 unfolding IsDistinct
 distinct_bytes [] e = tt
 distinct_bytes (x ∷ xs) e = let p = or_parts _ _ (sym (repeats_cut (x ∷ []) xs) ∙ e) in (none_is x xs p.0, distinct_bytes xs p.1)
 
-bytes_distinct : (xs : List (List ℕ)) → IsDistinct bytes_eq xs → repeats [] xs ≡ false
+bytes_distinct : (xs : List (List ℕ)) → IsDistinct bytes_eq xs → repeats_earlier [] xs ≡ false
 unfolding IsDistinct
 bytes_distinct [] h = refl
-bytes_distinct (x ∷ xs) h = repeats_cut (x ∷ []) xs ∙ (ap (λ b. b || repeats [] xs) (is_none x xs h.0) ∙ bytes_distinct xs h.1)
+bytes_distinct (x ∷ xs) h = repeats_cut (x ∷ []) xs ∙ (ap (λ b. b || repeats_earlier [] xs) (is_none x xs h.0) ∙ bytes_distinct xs h.1)
 
 all_lower : (x : List ℕ) (xs : List (List ℕ)) → AllByRecursion (λ y. is_same_name x y ≡ false) xs → AllByRecursion (λ y. bytes_eq (str_to_ascii_lowercase x) y ≡ false) (map str_to_ascii_lowercase xs)
 all_lower x [] h = tt
@@ -118,7 +118,7 @@ abbrev pub shares : Lot → Lot → Bool
 shares one other = list_any (λ file. list_any (λ again. is_same_name again file) (files_of other)) (files_of one)
 
 abbrev pub has_twins : Lot → Bool
-has_twins lot = repeats [] (map str_to_ascii_lowercase (files_of lot))
+has_twins lot = repeats_earlier [] (map str_to_ascii_lowercase (files_of lot))
 
 shared : (lots : List Lot) (lot : Lot) → list_any (λ x. list_any (bytes_eq x) (lower_files lots)) (map str_to_ascii_lowercase (files_of lot)) ≡ list_any (λ (l : Lot). shares l lot) lots
 shared lots lot =

@@ -10,7 +10,7 @@ ghost use Rattle.edi_delivery.specs.Lots.{has_type as group_has_type, StatesLots
 ghost use Rattle.edi_delivery.specs.DeliveryRules.{BreaksDeliveryRule};
 ghost use Rattle.edi_delivery.specs.inner.Steps.{IfRule};
 ghost use Rattle.edi_delivery.specs.inner.Noted.{HasNoted};
-ghost use Rattle.edi_delivery.specs.inner.Taken.{IsTaken, IsLeastHere};
+ghost use Rattle.edi_delivery.specs.inner.Taken.{AreTakenLots, IsLeastHere};
 
 use crate::draft::lot_of;
 use crate::fault::{DeliveryFault, LotFault};
@@ -54,9 +54,9 @@ fn has_type(group: &[Zone<'_>], code: &[u8]) -> bool
 fn take_record(alloc: Global, lots: &mut LotsSoFar, group: &[Zone<'_>]) -> Result<(), LotFault>
     requires { HasNoted lots.old }
     ensures noted { OnOk result (HasNoted lots.new) }
-    ensures taken { OnOk result ((before : List (List ZoneData)) → IsTaken before lots.old.lots.items
-        → IsTaken (before ++ entries group.now ∷ []) lots.new.lots.items) }
-    ensures least { IfErr result (IfRule (λ rule. (before : List (List ZoneData)) → IsTaken before lots.old.lots.items
+    ensures taken { OnOk result ((before : List (List ZoneData)) → AreTakenLots before lots.old.lots.items
+        → AreTakenLots (before ++ entries group.now ∷ []) lots.new.lots.items) }
+    ensures least { IfErr result (IfRule (λ rule. (before : List (List ZoneData)) → AreTakenLots before lots.old.lots.items
         → IsLeastHere before (entries group.now) rule)) }
 {
     if has_type(group, b"GTS") {

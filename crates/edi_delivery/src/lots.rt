@@ -4,7 +4,7 @@ ghost use Rattle.std.specs.Prelude.{◌≡◌, ◌++◌, ◌∷◌, [], true, fa
 ghost use Rattle.std.specs.Str.{str_to_ascii_lowercase};
 ghost use Rattle.edi_line.specs.inner.Refusal.{first_broken};
 ghost use Rattle.edi_delivery.specs.Lots.{files_of};
-ghost use Rattle.edi_delivery.specs.inner.Steps.{IfRule, repeats};
+ghost use Rattle.edi_delivery.specs.inner.Steps.{IfRule, repeats_earlier};
 ghost use Rattle.edi_delivery.specs.inner.Noted.{HasNoted, take_tests};
 
 use crate::fault::LotFault;
@@ -22,9 +22,9 @@ fn note_files(
     lot: &Lot,
 ) -> Result<(), LotFault>
     ensures noted { OnOk result (noted.new.keys ≡ noted.old.keys ++ map str_to_ascii_lowercase (files_of lot.now)) }
-    ensures apart { OnOk result (repeats noted.old.keys (map str_to_ascii_lowercase (files_of lot.now)) ≡ false) }
+    ensures apart { OnOk result (repeats_earlier noted.old.keys (map str_to_ascii_lowercase (files_of lot.now)) ≡ false) }
     ensures again { IfErr result (IfRule (λ rule. (rule ≡ 710)
-        × (repeats noted.old.keys (map str_to_ascii_lowercase (files_of lot.now)) ≡ true))) }
+        × (repeats_earlier noted.old.keys (map str_to_ascii_lowercase (files_of lot.now)) ≡ true))) }
 {
     let files = lot.files(alloc)?;
     for file in &files {

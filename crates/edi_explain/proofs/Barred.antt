@@ -9,7 +9,7 @@ use Rattle.edi_line.specs.LineRules.{BreaksAt, BreaksLineRule}
 use Rattle.edi_line.specs.Lines.{content_of}
 use Rattle.edi_line.specs.Refusal.{IsLeastBroken}
 use Rattle.edi_line.specs.Spelling.{Reading, Spelling}
-use Rattle.edi_line.specs.inner.Lines.{contents_of, lines_of}
+use Rattle.edi_line.specs.inner.Lines.{line_contents, lines_in}
 use Rattle.edi_line.specs.inner.Spelling.{reading_of}
 use Rattle.edi_line.specs.inner.Zones.{readings_of}
 use Rattle.edi_explain.proofs.Names.{same_some}
@@ -77,11 +77,11 @@ cut_there (y ∷ ys) zero x h = ([], ys, ap (λ z. z ∷ ys) (same_some h), refl
 cut_there (y ∷ ys) (suc i) x h = let more = cut_there ys i x h in (y ∷ more.0, more.1, ap (λ zs. y ∷ zs) more.2, ap suc more.3)
 
 module _ (bytes : List ℕ) (rule at : ℕ) (least : IsLeastBroken (BreaksLineRule bytes) rule at) (big : 104 ≤ rule) where
-  reading_there : (k : ℕ) (c : List ℕ) → slice_get (contents_of bytes) k ≡ Some c → slice_get (readings_of bytes) k ≡ Some (reading_of c)
-  reading_there k c h = slice_get-map reading_of (contents_of bytes) k ∙ ap (option_map reading_of) h
+  reading_there : (k : ℕ) (c : List ℕ) → slice_get (line_contents bytes) k ≡ Some c → slice_get (readings_of bytes) k ≡ Some (reading_of c)
+  reading_there k c h = slice_get-map reading_of (line_contents bytes) k ∙ ap (option_map reading_of) h
 
   -- the refused line and those before it break no rule of their own
-  pub fine_there : (k : ℕ) (c : List ℕ) → k < at → slice_get (contents_of bytes) k ≡ Some c → IsFine c
+  pub fine_there : (k : ℕ) (c : List ℕ) → k < at → slice_get (line_contents bytes) k ≡ Some c → IsFine c
   fine_there k c less h r e =
       let cut = cut_there (readings_of bytes) k (reading_of c) (reading_there k c h) in
       let breaks : BreaksAt (readings_of bytes) r (k + 1) = record { before = cut.0; line = reading_of c; after = cut.1; cut = cut.2; place_is = omega (arith, cut.3); breaks = inl e } in
@@ -93,8 +93,8 @@ module _ (bytes : List ℕ) (rule at : ℕ) (least : IsLeastBroken (BreaksLineRu
       go (inr (inl two)) (inr h) = omega (arith, two, h.1, big)
       go (inr (inr three)) (inr h) = omega (arith, three, h.1, big)
 
-  module _ (d : List ℕ) (some : 1 ≤ at) (here : slice_get (contents_of bytes) (at - 1) ≡ Some d) where
-    pub barred : (m : ℕ) (c : List ℕ) → 1 ≤ m → m < at → slice_get (contents_of bytes) (m - 1) ≡ Some c → bars_text rule c d ≡ true → IsBarredBy bytes rule at m
+  module _ (d : List ℕ) (some : 1 ≤ at) (here : slice_get (line_contents bytes) (at - 1) ≡ Some d) where
+    pub barred : (m : ℕ) (c : List ℕ) → 1 ≤ m → m < at → slice_get (line_contents bytes) (m - 1) ≡ Some c → bars_text rule c d ≡ true → IsBarredBy bytes rule at m
     barred m c one less there t = record {
       readings = readings_of bytes;
       say = readings_exist bytes;
@@ -107,7 +107,7 @@ module _ (bytes : List ℕ) (rule at : ℕ) (least : IsLeastBroken (BreaksLineRu
       barred = bars_same rule c d (fine_there (m - 1) c (omega (arith, less, one)) there) (fine_there (at - 1) d (omega (arith, some)) here) ∙ t;
     }
 
-    pub text_bars : (m : ℕ) (c : List ℕ) → slice_get (contents_of bytes) (m - 1) ≡ Some c → IsBarredBy bytes rule at m → bars_text rule c d ≡ true
+    pub text_bars : (m : ℕ) (c : List ℕ) → slice_get (line_contents bytes) (m - 1) ≡ Some c → IsBarredBy bytes rule at m → bars_text rule c d ≡ true
     text_bars m c there h =
         let all = readings_are bytes h.readings h.say in
         let first : h.earlier ≡ reading_of c = same_some (sym h.there ∙ (ap (λ rs. slice_get rs (m - 1)) all ∙ reading_there (m - 1) c there)) in
@@ -116,13 +116,13 @@ module _ (bytes : List ℕ) (rule at : ℕ) (least : IsLeastBroken (BreaksLineRu
         ∙ (sym (ap (λ r. bars rule r (reading_of d)) first) ∙ (sym (ap (λ r. bars rule h.earlier r) second) ∙ h.barred))
 
 -- there is no such line
-pub no_such_line : (bytes : List ℕ) (rule at m : ℕ) → slice_get (contents_of bytes) (at - 1) ≡ None → ¬ (IsBarredBy bytes rule at m)
+pub no_such_line : (bytes : List ℕ) (rule at m : ℕ) → slice_get (line_contents bytes) (at - 1) ≡ None → ¬ (IsBarredBy bytes rule at m)
 no_such_line bytes rule at m none h =
     let all = readings_are bytes h.readings h.say in
-    let some : None ≡ Some h.line = sym (slice_get-map reading_of (contents_of bytes) (at - 1) ∙ ap (option_map reading_of) none) ∙ (sym (ap (λ rs. slice_get rs (at - 1)) all) ∙ h.here) in cc
+    let some : None ≡ Some h.line = sym (slice_get-map reading_of (line_contents bytes) (at - 1) ∙ ap (option_map reading_of) none) ∙ (sym (ap (λ rs. slice_get rs (at - 1)) all) ∙ h.here) in cc
 
 -- the first line is the one that comes next
-pub next_content : (bytes line behind : List ℕ) → lines_of bytes ≡ line ∷ lines_of behind → contents_of bytes ≡ content_of line ∷ contents_of behind
+pub next_content : (bytes line behind : List ℕ) → lines_in bytes ≡ line ∷ lines_in behind → line_contents bytes ≡ content_of line ∷ line_contents behind
 next_content bytes line behind e = ap (map content_of) e
 
 -- other rules speak of no earlier line
@@ -136,6 +136,6 @@ no_bars bytes rule at m a b h = go (nat_eq rule 107) refl (nat_eq rule 108) refl
     go false t false u k = cc
 
 -- no bytes, no lines
-pub empty_contents : (rest : List ℕ) → length rest ≡ 0 → (j : ℕ) → slice_get (contents_of rest) j ≡ None
+pub empty_contents : (rest : List ℕ) → length rest ≡ 0 → (j : ℕ) → slice_get (line_contents rest) j ≡ None
 empty_contents [] e j = refl
 empty_contents (x ∷ xs) e j = absurd (omega (arith, e))

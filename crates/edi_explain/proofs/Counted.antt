@@ -8,7 +8,7 @@ use Rattle.edi_line.specs.LineRules.{BreaksHere, BreaksIn, BreaksLineRule, line_
 use Rattle.edi_line.specs.Lines.{content_of}
 use Rattle.edi_line.specs.Refusal.{BreaksTest, IsLeastBroken}
 use Rattle.edi_line.specs.Spelling.{HasMore, Reading}
-use Rattle.edi_line.specs.inner.Lines.{contents_of, lines_of}
+use Rattle.edi_line.specs.inner.Lines.{line_contents, lines_in}
 use Rattle.edi_line.specs.inner.Spelling.{reading_of}
 use Rattle.edi_line.specs.inner.Zones.{readings_of}
 use Rattle.edi_explain.proofs.Names.{same_some}
@@ -41,30 +41,30 @@ module _ (bytes : List ℕ) (rule at : ℕ) (least : IsLeastBroken (BreaksLineRu
       go (inl h) = (omega (arith, h.place_is), at_cut (readings_of bytes) h.before h.after h.line (at - 1) h.cut (omega (arith, h.place_is)) ∙ ap Some (own_rule h.before h.line (subst (BreaksHere h.before h.line) is h.breaks)))
       go (inr h) = absurd (omega (arith, h.rule_is, is))
 
-  pub refused_more : (content : List ℕ) → slice_get (contents_of bytes) (at - 1) ≡ Some content → HasMore content
+  pub refused_more : (content : List ℕ) → slice_get (line_contents bytes) (at - 1) ≡ Some content → HasMore content
   refused_more content there =
-      (read_103 content).0 (same_some (sym (slice_get-map reading_of (contents_of bytes) (at - 1) ∙ ap (option_map reading_of) there) ∙ refused_line.1))
+      (read_103 content).0 (same_some (sym (slice_get-map reading_of (line_contents bytes) (at - 1) ∙ ap (option_map reading_of) there) ∙ refused_line.1))
 
-  pub counts_here : (content : List ℕ) → slice_get (contents_of bytes) (at - 1) ≡ Some content → IsMiscounted content → CountsCharacters bytes at
-  counts_here content there h = go (slice_get (lines_of bytes) (at - 1)) refl
+  pub counts_here : (content : List ℕ) → slice_get (line_contents bytes) (at - 1) ≡ Some content → IsMiscounted content → CountsCharacters bytes at
+  counts_here content there h = go (slice_get (lines_in bytes) (at - 1)) refl
     where
-      go : (o : Option (List ℕ)) → slice_get (lines_of bytes) (at - 1) ≡ o → CountsCharacters bytes at
+      go : (o : Option (List ℕ)) → slice_get (lines_in bytes) (at - 1) ≡ o → CountsCharacters bytes at
       go (Some line) e = record {
-        lines = lines_of bytes;
+        lines = lines_in bytes;
         are_lines = lines_exist bytes;
         line = line;
         from_one = refused_line.0;
         there = e;
-        miscounted = subst IsMiscounted (same_some (sym there ∙ (slice_get-map content_of (lines_of bytes) (at - 1) ∙ ap (option_map content_of) e))) h;
+        miscounted = subst IsMiscounted (same_some (sym there ∙ (slice_get-map content_of (lines_in bytes) (at - 1) ∙ ap (option_map content_of) e))) h;
       }
-      go None e = let none : None ≡ Some content = sym (slice_get-map content_of (lines_of bytes) (at - 1) ∙ ap (option_map content_of) e) ∙ there in absurd cc
+      go None e = let none : None ≡ Some content = sym (slice_get-map content_of (lines_in bytes) (at - 1) ∙ ap (option_map content_of) e) ∙ there in absurd cc
 
 module _ (bytes : List ℕ) (at : ℕ) where
-  content_there : (h : CountsCharacters bytes at) → slice_get (contents_of bytes) (at - 1) ≡ Some (content_of h.line)
-  content_there h = slice_get-map content_of (lines_of bytes) (at - 1) ∙ ap (option_map content_of) (ap (λ ls. slice_get ls (at - 1)) (sym (lines_unique bytes h.lines h.are_lines)) ∙ h.there)
+  content_there : (h : CountsCharacters bytes at) → slice_get (line_contents bytes) (at - 1) ≡ Some (content_of h.line)
+  content_there h = slice_get-map content_of (lines_in bytes) (at - 1) ∙ ap (option_map content_of) (ap (λ ls. slice_get ls (at - 1)) (sym (lines_unique bytes h.lines h.are_lines)) ∙ h.there)
 
-  pub counted_here : (content : List ℕ) → slice_get (contents_of bytes) (at - 1) ≡ Some content → CountsCharacters bytes at → IsMiscounted content
+  pub counted_here : (content : List ℕ) → slice_get (line_contents bytes) (at - 1) ≡ Some content → CountsCharacters bytes at → IsMiscounted content
   counted_here content there h = subst IsMiscounted (same_some (sym (content_there h) ∙ there)) h.miscounted
 
-  pub no_line : slice_get (contents_of bytes) (at - 1) ≡ None → ¬ (CountsCharacters bytes at)
+  pub no_line : slice_get (line_contents bytes) (at - 1) ≡ None → ¬ (CountsCharacters bytes at)
   no_line none h = let some : None ≡ Some (content_of h.line) = sym none ∙ content_there h in cc

@@ -5,7 +5,7 @@ use Rattle.std.proofs.lemmas.Bool.{cases_lt, false_from_ne_true}
 use Rattle.std.proofs.lemmas.List.{length-take-le, take-append-drop, take_at, take_all}
 use Rattle.std.proofs.lemmas.Slice.Eq.{bytes_eq-Decides}
 use Rattle.edi_line.proofs.Cut.{lines_exist, lines_unique}
-use Rattle.edi_line.specs.inner.Lines.{lines_of}
+use Rattle.edi_line.specs.inner.Lines.{lines_in}
 use Rattle.edi_explain.specs.Hints.{IsPartAmong, IsPartIfAny, part_typed, type_head}
 use Rattle.edi_explain.specs.declared.hints.Part.{Part}
 
@@ -121,9 +121,9 @@ pub head_found : (line : List ℕ) (lines : List (List ℕ)) → starts_with nat
 head_found line lines e = ap (λ b. cond b (part_typed (take 3 (drop 8 line))) (part_in lines)) e
 
 -- the part that reading line by line finds is the one that the file is, if it is any
-pub part_found : (bytes : List ℕ) (found : Option Part) → found ≡ part_in (lines_of bytes) → IsPartIfAny bytes found
-part_found bytes found e = go found (subst (λ (o : Option Part). MatchOption o ((part : Part) → ¬ (IsPartAmong (lines_of bytes) part)) (IsPartAmong (lines_of bytes))) (sym e) (among (lines_of bytes)))
+pub part_found : (bytes : List ℕ) (found : Option Part) → found ≡ part_in (lines_in bytes) → IsPartIfAny bytes found
+part_found bytes found e = go found (subst (λ (o : Option Part). MatchOption o ((part : Part) → ¬ (IsPartAmong (lines_in bytes) part)) (IsPartAmong (lines_in bytes))) (sym e) (among (lines_in bytes)))
   where
-    go : (o : Option Part) → MatchOption o ((part : Part) → ¬ (IsPartAmong (lines_of bytes) part)) (IsPartAmong (lines_of bytes)) → IsPartIfAny bytes o
-    go (Some part) h = (lines_of bytes, lines_exist bytes, h)
+    go : (o : Option Part) → MatchOption o ((part : Part) → ¬ (IsPartAmong (lines_in bytes) part)) (IsPartAmong (lines_in bytes)) → IsPartIfAny bytes o
+    go (Some part) h = (lines_in bytes, lines_exist bytes, h)
     go None none = λ part h. none part (subst (λ ls. IsPartAmong ls part) (lines_unique bytes h.0 h.1) h.2)

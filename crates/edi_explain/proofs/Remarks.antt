@@ -9,7 +9,7 @@ use Rattle.edi_line.specs.LineRules.{BreaksAt, BreaksLineRule}
 use Rattle.edi_line.specs.Lines.{content_of}
 use Rattle.edi_line.specs.Refusal.{IsUnbroken}
 use Rattle.edi_line.specs.Spelling.{Reading}
-use Rattle.edi_line.specs.inner.Lines.{contents_of, lines_of}
+use Rattle.edi_line.specs.inner.Lines.{line_contents, lines_in}
 use Rattle.edi_line.specs.inner.Spelling.{reading_of}
 use Rattle.edi_line.specs.inner.Zones.{readings_of}
 use Rattle.edi_explain.proofs.Barred.{IsFine, next_content, remark_tested}
@@ -46,7 +46,7 @@ remark_read content fine = remark_zone (reading_of content) ∙ remark_tested co
 
 -- the contents of a file that breaks no rule of lines
 abbrev pub AreFine : List ℕ → Type 0
-AreFine bytes = AllByRecursion IsFine (contents_of bytes)
+AreFine bytes = AllByRecursion IsFine (line_contents bytes)
 
 module _ (bytes : List ℕ) (unbroken : IsUnbroken (BreaksLineRule bytes)) where
   fine_behind : (before : List Reading) (contents : List (List ℕ)) → readings_of bytes ≡ before ++ map reading_of contents → AllByRecursion IsFine contents
@@ -59,16 +59,16 @@ module _ (bytes : List ℕ) (unbroken : IsUnbroken (BreaksLineRule bytes)) where
   )
 
   pub all_fine : AreFine bytes
-  all_fine = fine_behind [] (contents_of bytes) refl
+  all_fine = fine_behind [] (line_contents bytes) refl
 
 -- the first line, and the remarks behind it
-pub remarks_more : (bytes line behind : List ℕ) → lines_of bytes ≡ line ∷ lines_of behind → (b : Bool) → bears is_remark (reading_of (content_of line)) ≡ b
+pub remarks_more : (bytes line behind : List ℕ) → lines_in bytes ≡ line ∷ lines_in behind → (b : Bool) → bears is_remark (reading_of (content_of line)) ≡ b
     → remarks_in (readings_of bytes) ≡ cond b 1 0 + remarks_in (readings_of behind)
 remarks_more bytes line behind e b f =
     ap (λ cs. remarks_in (map reading_of cs)) (next_content bytes line behind e)
     ∙ (count-cons (bears is_remark) (reading_of (content_of line)) (readings_of behind) ∙ ap (λ t. cond t 1 0 + remarks_in (readings_of behind)) f)
 
-pub fine_step : (bytes line behind : List ℕ) → lines_of bytes ≡ line ∷ lines_of behind → AreFine bytes → IsFine (content_of line) × AreFine behind
+pub fine_step : (bytes line behind : List ℕ) → lines_in bytes ≡ line ∷ lines_in behind → AreFine bytes → IsFine (content_of line) × AreFine behind
 fine_step bytes line behind e h = subst (AllByRecursion IsFine) (next_content bytes line behind e) h
 
 pub no_remarks : (bytes : List ℕ) → length bytes ≡ 0 → remarks_in (readings_of bytes) ≡ 0

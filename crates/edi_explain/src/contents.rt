@@ -3,14 +3,14 @@
 ghost use Rattle.std.specs.Prelude.{◌≡◌, ◌∷◌, ◌<◌, ◌-◌, ◌==◌, length, option_map, position, slice_get};
 ghost use Rattle.edi_line.specs.Bytes.{line_feed};
 ghost use Rattle.edi_line.specs.Lines.{content_of, without_last};
-ghost use Rattle.edi_line.specs.inner.Lines.{contents_of, lines_of};
+ghost use Rattle.edi_line.specs.inner.Lines.{line_contents, lines_in};
 
 use memchr::memchr;
 
 /// The first line, with its line feed if it has one, and the bytes behind it.
 pub(crate) fn first_line(bytes: &[u8]) -> (&[u8], &[u8])
     requires { 0 < length bytes.now }
-    ensures lines { lines_of bytes.now ≡ result.0.now ∷ lines_of result.1.now }
+    ensures lines { lines_in bytes.now ≡ result.0.now ∷ lines_in result.1.now }
     ensures shorter { length result.1.now < length bytes.now }
 {
     match feed_in(bytes) {
@@ -44,7 +44,7 @@ fn without(last: u8, bytes: &[u8]) -> &[u8]
 
 /// The content of the line with a number.
 pub(crate) fn content_numbered(bytes: &[u8], number: u64) -> Option<&[u8]>
-    ensures { option_map (λ c. c.now) result ≡ slice_get (contents_of bytes.now) (number - 1) }
+    ensures { option_map (λ c. c.now) result ≡ slice_get (line_contents bytes.now) (number - 1) }
 {
     let mut left = number.saturating_sub(1);
     let mut rest = bytes;

@@ -1,7 +1,7 @@
 //! Files that were cut in a line.
 
 ghost use Rattle.std.specs.Prelude.{◌≡◌, ◌↔◌, ◌++◌, ◌==◌, IsTrue, OnOk, length};
-ghost use Rattle.edi_line.specs.inner.Lines.{lines_of};
+ghost use Rattle.edi_line.specs.inner.Lines.{lines_in};
 ghost use Rattle.edi_explain.specs.Cuts.{IsCutAt, ShowsCut, cut_hint, is_ended as is_ended_text};
 
 use crate::contents::first_line;
@@ -13,7 +13,7 @@ const FEED: [u8; 1] = [b'\n'];
 
 /// Whether a file has so many lines.
 fn has_lines(bytes: &[u8], count: u64) -> bool
-    ensures { result ≡ (count == length (lines_of bytes.now)) }
+    ensures { result ≡ (count == length (lines_in bytes.now)) }
 {
     let mut left = count;
     let mut rest = bytes;

@@ -3,28 +3,28 @@ use Rattle.std.proofs.Common.{◌≡◌, ℕ, ◌+◌, ◌≤◌, ◌<◌, true,
 use Rattle.std.specs.List.{AllByRecursion, concat, onto_first}
 use Rattle.std.proofs.lemmas.List.{append-nil, append_assoc, map-append, length-map}
 use Rattle.edi_line.specs.Lines.{HasNoFeed, IsEnded, AreLines, content_of}
-use Rattle.edi_line.specs.inner.Lines.{lines_of}
+use Rattle.edi_line.specs.inner.Lines.{lines_in}
 use Rattle.edi_line.specs.inner.Spelling.{reading_of}
 use Rattle.edi_line.specs.inner.Zones.{readings_of}
 use Rattle.edi_line.specs.Feeding.{EndedPart}
 use Rattle.edi_line.proofs.Cut.{one_line, line_first, lines_exist}
 
-lines_append : (lines : List (List ℕ)) (rest : List ℕ) → AllByRecursion IsEnded lines → lines_of (concat lines ++ rest) ≡ lines ++ lines_of rest
+lines_append : (lines : List (List ℕ)) (rest : List ℕ) → AllByRecursion IsEnded lines → lines_in (concat lines ++ rest) ≡ lines ++ lines_in rest
 lines_append [] rest h = refl
 lines_append (line ∷ lines) rest h =
-    ap lines_of (append_assoc line (concat lines) rest) ∙ line_first line (concat lines ++ rest) h.0 ∙ ap (λ ls. line ∷ ls) (lines_append lines rest h.1)
+    ap lines_in (append_assoc line (concat lines) rest) ∙ line_first line (concat lines ++ rest) h.0 ∙ ap (λ ls. line ∷ ls) (lines_append lines rest h.1)
 
 abbrev AllEnded : List ℕ → Type 0
-AllEnded bytes = AllByRecursion IsEnded (lines_of bytes)
+AllEnded bytes = AllByRecursion IsEnded (lines_in bytes)
 
-pub ended_append : (ended rest : List ℕ) → AllEnded ended → lines_of (ended ++ rest) ≡ lines_of ended ++ lines_of rest
-ended_append ended rest h = ap (λ bytes. lines_of (bytes ++ rest)) (sym (lines_exist ended).joined) ∙ lines_append (lines_of ended) rest h
+pub ended_append : (ended rest : List ℕ) → AllEnded ended → lines_in (ended ++ rest) ≡ lines_in ended ++ lines_in rest
+ended_append ended rest h = ap (λ bytes. lines_in (bytes ++ rest)) (sym (lines_exist ended).joined) ∙ lines_append (lines_in ended) rest h
 
 pub readings_append : (ended rest : List ℕ) → AllEnded ended → readings_of (ended ++ rest) ≡ readings_of ended ++ readings_of rest
 readings_append ended rest h =
     ap (λ lines. map reading_of (map content_of lines)) (ended_append ended rest h)
-    ∙ ap (map reading_of) (map-append content_of (lines_of ended) (lines_of rest))
-    ∙ map-append reading_of (map content_of (lines_of ended)) (map content_of (lines_of rest))
+    ∙ ap (map reading_of) (map-append content_of (lines_in ended) (lines_in rest))
+    ∙ map-append reading_of (map content_of (lines_in ended)) (map content_of (lines_in rest))
 
 pub readings_first : (line after : List ℕ) → IsEnded line → readings_of (line ++ after) ≡ reading_of (content_of line) ∷ readings_of after
 readings_first line after e = ap (λ lines. map reading_of (map content_of lines)) (line_first line after e)
@@ -39,8 +39,8 @@ all_append (x ∷ xs) ys h k = (h.0, all_append xs ys h.1 k)
 -- the lines of what has ended are its lines
 pub all_ended : {bytes ended pending : List ℕ} → EndedPart bytes ended pending → AllEnded ended
 all_ended {ended = ended} cut =
-    let lines : lines_of (concat cut.lines ++ []) ≡ cut.lines ++ [] = lines_append cut.lines [] cut.each_ended in
-    let same : cut.lines ≡ lines_of ended = sym (append-nil cut.lines) ∙ sym lines ∙ ap lines_of (append-nil (concat cut.lines) ∙ cut.are_lines) in
+    let lines : lines_in (concat cut.lines ++ []) ≡ cut.lines ++ [] = lines_append cut.lines [] cut.each_ended in
+    let same : cut.lines ≡ lines_in ended = sym (append-nil cut.lines) ∙ sym lines ∙ ap lines_in (append-nil (concat cut.lines) ∙ cut.are_lines) in
     subst (AllByRecursion IsEnded) same cut.each_ended
 
 concat_append : (xs ys : List (List ℕ)) → concat (xs ++ ys) ≡ concat xs ++ concat ys
@@ -87,7 +87,7 @@ cut_lines (line ∷ []) (inr u) = record { ended = []; rest = line; cut = record
 cut_lines (line ∷ next ∷ lines) each = one_more line (concat (next ∷ lines)) each.0 (cut_lines (next ∷ lines) each.1)
 
 pub cut_exists : (bytes : List ℕ) → IsCut bytes
-cut_exists bytes = let lines = lines_exist bytes in subst IsCut lines.joined (cut_lines (lines_of bytes) lines.each)
+cut_exists bytes = let lines = lines_exist bytes in subst IsCut lines.joined (cut_lines (lines_in bytes) lines.each)
 
 -- a line of what is pending and of the bytes that end it
 pub pending_ended : (pending line : List ℕ) → HasNoFeed pending → IsEnded line → IsEnded (pending ++ line)
@@ -107,13 +107,13 @@ onto_few : (c : ℕ) (lines : List (List ℕ)) → length (onto_first c lines) �
 onto_few c [] = omega arith
 onto_few c (line ∷ lines) = omega arith
 
-lines_few : (bytes : List ℕ) → length (lines_of bytes) ≤ length bytes
+lines_few : (bytes : List ℕ) → length (lines_in bytes) ≤ length bytes
 lines_few [] = omega arith
 lines_few (c ∷ cs) = few (eqb c 10) (lines_few cs)
   where
-    few : (b : Bool) → length (lines_of cs) ≤ length cs → length (cond b ((c ∷ []) ∷ lines_of cs) (onto_first c (lines_of cs))) ≤ length (c ∷ cs)
+    few : (b : Bool) → length (lines_in cs) ≤ length cs → length (cond b ((c ∷ []) ∷ lines_in cs) (onto_first c (lines_in cs))) ≤ length (c ∷ cs)
     few true h = omega arith
-    few false h = omega (arith, h, onto_few c (lines_of cs))
+    few false h = omega (arith, h, onto_few c (lines_in cs))
 
 pub readings_few : (bytes : List ℕ) → length (readings_of bytes) ≤ length bytes
-readings_few bytes = omega (arith, lines_few bytes, length-map (lines_of bytes) content_of, length-map (map content_of (lines_of bytes)) reading_of)
+readings_few bytes = omega (arith, lines_few bytes, length-map (lines_in bytes) content_of, length-map (map content_of (lines_in bytes)) reading_of)

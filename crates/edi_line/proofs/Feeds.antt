@@ -7,7 +7,7 @@ use Rattle.edi_line.specs.Lines.{HasNoFeed, IsEnded, content_of}
 use Rattle.edi_line.specs.inner.Zones.{readings_of, parts_after}
 use Rattle.edi_line.specs.LineRules.{BreaksAt, LacksEnd, BreaksIn, BreaksLineRule}
 use Rattle.edi_line.specs.Refusal.{IsLeastBroken, IfBroken}
-use Rattle.edi_line.specs.inner.Held.{no_zones, zoned_after, rule_of, zoned, Takes, Refuses, Stands}
+use Rattle.edi_line.specs.inner.Held.{no_zones, zoned_after, rule_of, zoned, TakesNextLine, BreaksAtNext, Stands}
 use Rattle.edi_line.specs.Feeding.{HoldsZones, EndedPart, seen_in, Refused, FeedState, HoldsAll, HoldsFault, StandsBy, StandsFor, fault_seen}
 use Rattle.edi_line.specs.inner.Feeding.{TakesAll, TakesFront, RefusesOne, RefusesIn}
 use Rattle.edi_line.specs.declared.fault.LineFault.{LineFault}
@@ -113,7 +113,7 @@ pub front_none : (r : Reader) (bytes : List ℕ) → HasNoFeed bytes → TakesFr
 front_none r bytes none = record { ended = []; cut = cut_none bytes none; takes = refl }
 
 -- a line that was taken, and then others
-pub front_more : (old mid new : Reader) (line after rest : List ℕ) → IsEnded line → Takes old (reading_of (content_of line)) mid → TakesFront mid after rest new → TakesFront old (line ++ after) rest new
+pub front_more : (old mid new : Reader) (line after rest : List ℕ) → IsEnded line → TakesNextLine old (reading_of (content_of line)) mid → TakesFront mid after rest new → TakesFront old (line ++ after) rest new
 front_more old mid new line after rest e t f = record {
   ended = line ++ f.ended;
   cut = cut_before line after f.ended rest e f.cut;
@@ -121,7 +121,7 @@ front_more old mid new line after rest e t f = record {
 }
 
 -- a line that is refused
-pub refuses_first : (old : Reader) (line after : List ℕ) (rule place : ℕ) → IsEnded line → Refuses old (reading_of (content_of line)) rule place → RefusesIn old (line ++ after) rule place
+pub refuses_first : (old : Reader) (line after : List ℕ) (rule place : ℕ) → IsEnded line → BreaksAtNext old (reading_of (content_of line)) rule place → RefusesIn old (line ++ after) rule place
 refuses_first old line after rule place e h =
     let c = cut_exists after in
     record {
@@ -132,7 +132,7 @@ refuses_first old line after rule place e h =
     }
 
 -- a line that was taken, and one behind it that is refused
-pub refuses_more : (old mid : Reader) (line after : List ℕ) (rule place : ℕ) → IsEnded line → Takes old (reading_of (content_of line)) mid → RefusesIn mid after rule place → RefusesIn old (line ++ after) rule place
+pub refuses_more : (old mid : Reader) (line after : List ℕ) (rule place : ℕ) → IsEnded line → TakesNextLine old (reading_of (content_of line)) mid → RefusesIn mid after rule place → RefusesIn old (line ++ after) rule place
 refuses_more old mid line after rule place e t h = record {
   ended = line ++ h.ended;
   rest = h.rest;
@@ -149,10 +149,10 @@ refuses_more old mid line after rule place e t h = record {
 }
 
 -- the bytes that are left when all have come
-pub takes_last : (old new : Reader) (line : List ℕ) → HasNoFeed line → 0 < length line → Takes old (reading_of (content_of line)) new → TakesAll old (readings_of line) new
+pub takes_last : (old new : Reader) (line : List ℕ) → HasNoFeed line → 0 < length line → TakesNextLine old (reading_of (content_of line)) new → TakesAll old (readings_of line) new
 takes_last old new line none some t = subst (λ ls. TakesAll old ls new) (sym (readings_last line none some)) (let all : TakesAll old (reading_of (content_of line) ∷ []) new = (new, t, refl) in all)
 
-pub refuses_last : (old : Reader) (line : List ℕ) (rule place : ℕ) → HasNoFeed line → 0 < length line → Refuses old (reading_of (content_of line)) rule place → RefusesOne old (readings_of line) rule place
+pub refuses_last : (old : Reader) (line : List ℕ) (rule place : ℕ) → HasNoFeed line → 0 < length line → BreaksAtNext old (reading_of (content_of line)) rule place → RefusesOne old (readings_of line) rule place
 refuses_last old line rule place none some h = record { before = []; line = reading_of (content_of line); after = []; cut = readings_last line none some; mid = old; takes = refl; refuses = h }
 
 -- ---- what the feed stands for

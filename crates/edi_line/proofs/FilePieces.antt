@@ -10,7 +10,7 @@ use Rattle.std.specs.List.{AllByRecursion, position}
 use Rattle.edi_line.specs.Bytes.{IsBytes}
 use Rattle.edi_line.specs.Lines.{HasNoFeed, IsEnded}
 use Rattle.edi_line.specs.inner.FilePieces.{EndsInFeed, EachEnded, AreKept, pieces_joined}
-use Rattle.edi_line.specs.inner.Lines.{lines_of}
+use Rattle.edi_line.specs.inner.Lines.{lines_in}
 use Rattle.edi_line.specs.inner.Zones.{readings_of}
 use Rattle.edi_line.proofs.Cut.{ended_at_feed}
 use Rattle.edi_line.proofs.Ends.{all_ended, cut_exists, readings_append}
@@ -46,7 +46,7 @@ piece_readings piece rest e =
     let c = cut_exists piece in
     let none : c.rest ≡ [] = none_behind c.ended c.rest e.front (sym c.cut.joined ∙ e.ended) c.cut.no_feed in
     let whole : c.ended ≡ piece = sym (append-nil c.ended) ∙ ap (λ l. c.ended ++ l) (sym none) ∙ sym c.cut.joined in
-    readings_append piece rest (subst (λ l. AllByRecursion IsEnded (lines_of l)) whole (all_ended c.cut))
+    readings_append piece rest (subst (λ l. AllByRecursion IsEnded (lines_in l)) whole (all_ended c.cut))
 
 pub next_readings : (piece : Vec ℕ) (pieces : List (Vec ℕ)) (last : List ℕ) → EachEnded (piece ∷ pieces) → readings_of (pieces_joined (piece ∷ pieces) last) ≡ readings_of piece.items ++ readings_of (pieces_joined pieces last)
 next_readings piece pieces last each =

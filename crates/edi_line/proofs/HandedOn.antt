@@ -13,7 +13,7 @@ use Rattle.edi_line.specs.Spelling.{Reading}
 use Rattle.edi_line.specs.Zones.{ends_group, before_end, groups_of}
 use Rattle.edi_line.specs.inner.Groups.{charset_in, charset_behind, ends_in, has_group}
 use Rattle.edi_line.specs.inner.HandingOn.{IsInner, IsNext, IsAtLines, WentOn, starts_ended, behind}
-use Rattle.edi_line.specs.inner.Held.{rule_of, noted, no_zones, closed, step, zoned_after, zoned, Takes, Refuses, Stands}
+use Rattle.edi_line.specs.inner.Held.{rule_of, noted, no_zones, closed, zoned_step, zoned_after, zoned, TakesNextLine, BreaksAtNext, Stands}
 use Rattle.edi_line.specs.inner.Zones.{Part, part_of, parts_after, readings_of}
 use Rattle.edi_line.specs.inner.Zones.Part.{Blank, Continues, IsRemark, Begins}
 use Rattle.edi_line.specs.declared.fault.LineFault.TheVariants as fault
@@ -59,7 +59,7 @@ charset_on given (z ∷ zs) charset next inner e = go (ends_group z) refl next
 
 -- ---- what the reader holds
 
-step_behind : (given : List ZoneData) (part : Part) (z : Zoned) → step part (behind given z) ≡ behind given (step part z)
+step_behind : (given : List ZoneData) (part : Part) (z : Zoned) → zoned_step part (behind given z) ≡ behind given (zoned_step part z)
 step_behind given Blank z = refl
 step_behind given (Continues value) z = refl
 step_behind given IsRemark z = ap (λ d. record { done = d; open_zone = None }) (append_assoc given z.done (option_to_list z.open_zone))
@@ -74,12 +74,12 @@ front_starts [] ys e = absurd (cc)
 front_starts (x ∷ xs) ys e = e
 
 lengthened : (done : List ZoneData) (open_zone : Option ZoneData) (value : List ℕ) → starts_ended (closed (record { done = done; open_zone = open_zone })) ≡ true
-    → starts_ended (closed (step (Continues value) (record { done = done; open_zone = open_zone }))) ≡ true
+    → starts_ended (closed (zoned_step (Continues value) (record { done = done; open_zone = open_zone }))) ≡ true
 lengthened [] None value e = e
 lengthened [] (Some z) value e = e
 lengthened (d ∷ ds) open_zone value e = e
 
-starts_on : (part : Part) (z : Zoned) → starts_ended (closed z) ≡ true → starts_ended (closed (step part z)) ≡ true
+starts_on : (part : Part) (z : Zoned) → starts_ended (closed z) ≡ true → starts_ended (closed (zoned_step part z)) ≡ true
 starts_on Blank z e = e
 starts_on (Continues value) z e = lengthened z.done z.open_zone value e
 starts_on IsRemark z e = front_starts (closed z) [] e
@@ -89,7 +89,7 @@ front_inner : (xs ys : List ZoneData) → IsInner (xs ++ ys) → IsInner xs
 front_inner [] ys e = refl
 front_inner (x ∷ xs) ys e = (or_parts (list_any ends_group xs) (list_any ends_group ys) (sym (list_any-append ends_group xs ys) ∙ e)).0
 
-inner_on : (part : Part) (z : Zoned) → IsInner (closed z) → IsInner (step part z).done
+inner_on : (part : Part) (z : Zoned) → IsInner (closed z) → IsInner (zoned_step part z).done
 inner_on Blank z e = front_inner z.done (option_to_list z.open_zone) e
 inner_on (Continues value) z e = front_inner z.done (option_to_list z.open_zone) e
 inner_on IsRemark z e = e
@@ -153,7 +153,7 @@ record HasTaken (lines left : List Reading) (given : List ZoneData) (r : Reader)
   charset_is : charset ≡ charset_in (before_end given)
 
 one_taken : (lines left : List Reading) (line : Reading) (given : List ZoneData) (old new : Reader) (charset : Option (List ℕ))
-    → IsAtLines lines (line ∷ left) given old charset → Takes old line new → HasTaken lines left given new charset
+    → IsAtLines lines (line ∷ left) given old charset → TakesNextLine old line new → HasTaken lines left given new charset
 one_taken lines left line given old new charset at t =
     let part = part_of (old.line + 1) line in
     record {
@@ -170,12 +170,12 @@ one_taken lines left line given old new charset at t =
 
 -- the zones that are done belong to one record
 pub done_inner : (lines left : List Reading) (line : Reading) (given : List ZoneData) (old new : Reader) (charset : Option (List ℕ))
-    → IsAtLines lines (line ∷ left) given old charset → Takes old line new → IsInner (zoned new).done
+    → IsAtLines lines (line ∷ left) given old charset → TakesNextLine old line new → IsInner (zoned new).done
 done_inner lines left line given old new charset at t = (one_taken lines left line given old new charset at t).inner
 
 -- a line that ends no record
 pub line_held : (lines left : List Reading) (line : Reading) (given : List ZoneData) (old new : Reader) (charset : Option (List ℕ))
-    → has_group (zoned new) ≡ false → Takes old line new → IsAtLines lines (line ∷ left) given old charset → IsAtLines lines left given new charset
+    → has_group (zoned new) ≡ false → TakesNextLine old line new → IsAtLines lines (line ∷ left) given old charset → IsAtLines lines left given new charset
 line_held lines left line given old new charset none t at =
     let h = one_taken lines left line given old new charset at t in
     record {
@@ -195,7 +195,7 @@ pub group_gone : (lines left : List Reading) (line : Reading) (given stretch : L
     → has_group (zoned mid) ≡ true → stretch ≡ (zoned mid).done → charset_new ≡ charset_behind charset stretch
     → ((groups : List (List ZoneData)) → Before groups → After (groups ++ groups_of stretch))
     → new.line ≡ mid.line → new.order ≡ mid.order → zoned new ≡ record { done = []; open_zone = (zoned mid).open_zone }
-    → Takes old line mid → IsAtLines lines (line ∷ left) given old charset → WentOn lines left given new charset_new Before After
+    → TakesNextLine old line mid → IsAtLines lines (line ∷ left) given old charset → WentOn lines left given new charset_new Before After
 group_gone lines left line given stretch old mid new charset charset_new Before After has is set on same_line same_order zones t at =
     let h = one_taken lines left line given old mid charset at t in
     let parts = and_parts (ends_in (zoned mid).open_zone) (not (length (zoned mid).done == 0)) has in
@@ -245,7 +245,7 @@ room_left lines left given r charset at = omega (arith, at.counted, ap length at
 
 -- the line that comes next breaks a rule
 pub line_refused : (lines left : List Reading) (line : Reading) (given : List ZoneData) (r : Reader) (charset : Option (List ℕ)) (rule place : ℕ)
-    → Refuses r line rule place → IsAtLines lines (line ∷ left) given r charset → IsLeastBroken (BreaksIn lines) rule place
+    → BreaksAtNext r line rule place → IsAtLines lines (line ∷ left) given r charset → IsLeastBroken (BreaksIn lines) rule place
 line_refused lines left line given r charset rule place refuses at =
     refused_here lines at.done line left rule place at.cut at.sound (omega (arith, refuses.0, at.counted)) (ap (λ o. rule_of o line) (sym at.order) ∙ refuses.1)
 

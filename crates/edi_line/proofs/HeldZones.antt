@@ -7,7 +7,7 @@ use Rattle.edi_line.specs.Feeding.{Zoned, EndsInZone, HoldsZones}
 use Rattle.edi_line.specs.LineKinds.{kind_of, is_zone, starts, bears, some_bears}
 use Rattle.edi_line.specs.Spelling.{Reading}
 use Rattle.edi_line.specs.Zones.{IsZonesIn}
-use Rattle.edi_line.specs.inner.Held.{no_zones, closed, step, zoned_after}
+use Rattle.edi_line.specs.inner.Held.{no_zones, closed, zoned_step, zoned_after}
 use Rattle.edi_line.specs.inner.Zones.{part_by, part_of, parts_after}
 use Rattle.edi_line.specs.declared.order.ZoneKind.{ZoneKind}
 use Rattle.edi_line.specs.declared.order.ZoneKind.TheVariants.{Bom, Cse, Rty, Eom, Other, Next, Remark}
@@ -28,12 +28,12 @@ some_mapped : {X Y : Type 0} (f : X → Y) (o : Option X) → is_some (option_ma
 some_mapped f None = refl
 some_mapped f (Some x) = refl
 
-open_step : (n : ℕ) (z : Zoned) (line : Reading) → is_some (step (part_of n line) z).open_zone ≡ open_then (is_some z.open_zone) line
+open_step : (n : ℕ) (z : Zoned) (line : Reading) → is_some (zoned_step (part_of n line) z).open_zone ≡ open_then (is_some z.open_zone) line
 open_step n z (Ok None) = refl
 open_step n z (Err rule) = refl
 open_step n z (Ok (Some s)) = by (kind_of s.code)
   where
-    by : (k : ZoneKind) → is_some (step (part_by k n s) z).open_zone ≡ cond (starts k) (is_zone k) (is_some z.open_zone)
+    by : (k : ZoneKind) → is_some (zoned_step (part_by k n s) z).open_zone ≡ cond (starts k) (is_zone k) (is_some z.open_zone)
     by Next = some_mapped _ z.open_zone
     by Remark = refl
     by Bom = refl
@@ -44,7 +44,7 @@ open_step n z (Ok (Some s)) = by (kind_of s.code)
 
 open_after : (n : ℕ) (z : Zoned) (lines : List Reading) → is_some (zoned_after z (parts_after n lines)).open_zone ≡ open_by (is_some z.open_zone) lines
 open_after n z [] = refl
-open_after n z (line ∷ lines) = open_after (suc n) (step (part_of (suc n) line) z) lines ∙ ap (λ b. open_by b lines) (open_step (suc n) z line)
+open_after n z (line ∷ lines) = open_after (suc n) (zoned_step (part_of (suc n) line) z) lines ∙ ap (λ b. open_by b lines) (open_step (suc n) z line)
 
 open_through : (b : Bool) (lines : List Reading) → some_bears starts lines ≡ false → open_by b lines ≡ b
 open_through b [] none = refl

@@ -3,14 +3,14 @@ use Rattle.std.proofs.Common.{◌≡◌, ℕ, ◌+◌, true, false, Some, Result
 use Rattle.std.proofs.lemmas.List.{append-nil, append_assoc, length_push, take-append-drop, length-take-le, length-drop, take_at, drop_at}
 use Rattle.edi_line.specs.ZoneData.{ZoneData, entries}
 use Rattle.edi_line.specs.Lines.{content_of}
-use Rattle.edi_line.specs.inner.Lines.{lines_of}
+use Rattle.edi_line.specs.inner.Lines.{lines_in}
 use Rattle.edi_line.specs.Spelling.{Reading}
 use Rattle.edi_line.specs.inner.Spelling.{reading_of}
 use Rattle.edi_line.specs.inner.Zones.{readings_of, parts_after}
 use Rattle.edi_line.specs.Feeding.{seen_in}
 use Rattle.edi_line.specs.LineRules.{BreaksIn, BreaksLineRule, IsZonesOf}
 use Rattle.edi_line.specs.Refusal.{IsLeastBroken, IsUnbroken, IfBroken}
-use Rattle.edi_line.specs.inner.Held.{rule_of, no_zones, closed, zoned_after, zoned, Takes, Stands}
+use Rattle.edi_line.specs.inner.Held.{rule_of, no_zones, closed, zoned_after, zoned, TakesNextLine, Stands}
 use Rattle.edi_line.specs.declared.fault.LineFault.{LineFault}
 use Rattle.edi_line.specs.declared.fault.LineFault.TheVariants as fault
 use Rattle.edi_line.specs.declared.reading.Reader.{Reader}
@@ -46,7 +46,7 @@ pub record IsAt (lines : List Reading) (r : Reader) (left : List Reading) : Type
   pub stands : Stands (take r.line lines) r
   pub left_is : drop r.line lines ≡ left
 
-pub taken : (lines : List Reading) (old new : Reader) (line : Reading) (after : List Reading) → IsAt lines old (line ∷ after) → Takes old line new → IsAt lines new after
+pub taken : (lines : List Reading) (old new : Reader) (line : Reading) (after : List Reading) → IsAt lines old (line ∷ after) → TakesNextLine old line new → IsAt lines new after
 taken lines old new line after at t =
     let next = next_of lines old.line line after at.left_is in
     record {
@@ -67,7 +67,7 @@ taken_all lines n none = sym (append-nil (take n lines)) ∙ ap (λ xs. take n l
 pub all_taken : (lines : List Reading) (r : Reader) → IsAt lines r [] → Stands lines r
 all_taken lines r at = subst (λ done. Stands done r) (taken_all lines r.line at.left_is) at.stands
 
-pub readings_step : (bytes line after : List ℕ) → lines_of bytes ≡ line ∷ lines_of after → readings_of bytes ≡ reading_of (content_of line) ∷ readings_of after
+pub readings_step : (bytes line after : List ℕ) → lines_in bytes ≡ line ∷ lines_in after → readings_of bytes ≡ reading_of (content_of line) ∷ readings_of after
 readings_step bytes line after e = ap (λ lines. map reading_of (map content_of lines)) e
 
 -- a fault that is of a line

@@ -5,7 +5,7 @@ use Rattle.edi_line.specs.Lines.{content_of}
 use Rattle.edi_line.specs.LineRules.{BreaksIn, BreaksLineRule}
 use Rattle.edi_line.specs.Refusal.{IsUnbroken, IsLeastBroken, IfBroken}
 use Rattle.edi_line.specs.Spelling.{Reading, Says, AreReadings}
-use Rattle.edi_line.specs.inner.Lines.{lines_of}
+use Rattle.edi_line.specs.inner.Lines.{lines_in}
 use Rattle.edi_line.specs.inner.Spelling.{reading_of}
 use Rattle.edi_line.specs.inner.Zones.{readings_of}
 use Rattle.edi_line.specs.declared.fault.LineFault.{LineFault}
@@ -52,7 +52,7 @@ all_read (line ∷ lines) (r ∷ readings) h =
     ap (λ x. x ∷ readings) (sym (says_read (content_of line) r h.0)) ∙ ap (λ xs. reading_of (content_of line) ∷ xs) (all_read lines readings h.1)
 
 pub readings_exist : (bytes : List ℕ) → AreReadings bytes (readings_of bytes)
-readings_exist bytes = record { lines = lines_of bytes; are_lines = lines_exist bytes; say = all_say (lines_of bytes) }
+readings_exist bytes = record { lines = lines_in bytes; are_lines = lines_exist bytes; say = all_say (lines_in bytes) }
 
 pub readings_are : (bytes : List ℕ) (readings : List Reading) → AreReadings bytes readings → readings ≡ readings_of bytes
 readings_are bytes readings h = all_read h.lines readings h.say ∙ ap (λ lines. map reading_of (map content_of lines)) (lines_unique bytes h.lines h.are_lines)

@@ -12,7 +12,7 @@ use Rattle.edi_line.specs.LineKinds.{kind_of, is_bom, is_cse, is_rty, is_eom, is
 use Rattle.edi_line.specs.inner.Zones.Part.{Blank, Continues, IsRemark, Begins}
 use Rattle.edi_line.specs.LineRules.{line_tests, BreaksHere, BreaksAt, LacksEnd, BreaksIn}
 use Rattle.edi_line.specs.Refusal.{IsLeastBroken, IsUnbroken}
-use Rattle.edi_line.specs.inner.Held.{kind_tests, rule_of, noted, no_zones, closed, step, zoned_after, zoned, Takes, Stands}
+use Rattle.edi_line.specs.inner.Held.{kind_tests, rule_of, noted, no_zones, closed, zoned_step, zoned_after, zoned, TakesNextLine, Stands}
 use Rattle.edi_line.specs.Feeding.{seen_in, Zoned}
 use Rattle.edi_line.specs.declared.order.ZoneKind.{ZoneKind}
 use Rattle.edi_line.specs.declared.order.Order.{Order}
@@ -117,7 +117,7 @@ nothing_on : (o : Option ZoneData) → option_to_list (option_map (with_more [])
 nothing_on None = refl
 nothing_on (Some z) = ap (λ t. with_value z t ∷ []) (append-nil z.value)
 
-step_keeps : (part : Part) (parts : List Part) (z : Zoned) → completed (step part z) parts ≡ completed z (part ∷ parts)
+step_keeps : (part : Part) (parts : List Part) (z : Zoned) → completed (zoned_step part z) parts ≡ completed z (part ∷ parts)
 step_keeps Blank parts z = refl
 step_keeps (Continues v) parts z = ap (λ t. z.done ++ (t ++ whole_zones parts)) (more_on z.open_zone v (continuation parts))
 step_keeps IsRemark parts z = append_assoc z.done (option_to_list z.open_zone) (whole_zones parts) ∙ ap (λ t. z.done ++ (t ++ whole_zones parts)) (sym (nothing_on z.open_zone))
@@ -127,15 +127,15 @@ step_keeps (Begins zone) parts z =
 
 all_completed : (z : Zoned) (parts : List Part) → closed (zoned_after z parts) ≡ completed z parts
 all_completed z [] = ap (λ t. z.done ++ t) (sym (append-nil (option_to_list (option_map (with_more []) z.open_zone)) ∙ nothing_on z.open_zone))
-all_completed z (part ∷ parts) = all_completed (step part z) parts ∙ step_keeps part parts z
+all_completed z (part ∷ parts) = all_completed (zoned_step part z) parts ∙ step_keeps part parts z
 
 -- going forward gives what looking ahead says
 pub closed_zones : (parts : List Part) → closed (zoned_after no_zones parts) ≡ whole_zones parts
 closed_zones parts = all_completed no_zones parts
 
-zoned_push : (z : Zoned) (parts : List Part) (part : Part) → zoned_after z (parts ++ part ∷ []) ≡ step part (zoned_after z parts)
+zoned_push : (z : Zoned) (parts : List Part) (part : Part) → zoned_after z (parts ++ part ∷ []) ≡ zoned_step part (zoned_after z parts)
 zoned_push z [] part = refl
-zoned_push z (p ∷ parts) part = zoned_push (step p z) parts part
+zoned_push z (p ∷ parts) part = zoned_push (zoned_step p z) parts part
 
 parts_push : (n : ℕ) (done : List Reading) (line : Reading) → parts_after n (done ++ line ∷ []) ≡ parts_after n done ++ part_of (suc (n + length done)) line ∷ []
 parts_push n [] line = ap (λ k. part_of (suc k) line ∷ []) (omega arith)
@@ -197,11 +197,11 @@ sound_more done line sound none rule place h = along (push_is_cut done line h.be
         omega arith
 
 -- the zones that lines say, and then one line more
-pub zones_more : (done : List Reading) (line : Reading) (n : ℕ) (old new : Zoned) → n ≡ length done → old ≡ zoned_after no_zones (parts_after 0 done) → new ≡ step (part_of (n + 1) line) old → new ≡ zoned_after no_zones (parts_after 0 (done ++ line ∷ []))
+pub zones_more : (done : List Reading) (line : Reading) (n : ℕ) (old new : Zoned) → n ≡ length done → old ≡ zoned_after no_zones (parts_after 0 done) → new ≡ zoned_step (part_of (n + 1) line) old → new ≡ zoned_after no_zones (parts_after 0 (done ++ line ∷ []))
 zones_more done line n old new counted held stepped =
-    stepped ∙ ap (step (part_of (n + 1) line)) held ∙ sym (zoned_push no_zones (parts_after 0 done) (part_of (n + 1) line)) ∙ ap (λ k. zoned_after no_zones (parts_after 0 done ++ part_of k line ∷ [])) (let e : n + 1 ≡ suc (0 + length done) = omega (arith, counted) in e) ∙ ap (zoned_after no_zones) (sym (parts_push 0 done line))
+    stepped ∙ ap (zoned_step (part_of (n + 1) line)) held ∙ sym (zoned_push no_zones (parts_after 0 done) (part_of (n + 1) line)) ∙ ap (λ k. zoned_after no_zones (parts_after 0 done ++ part_of k line ∷ [])) (let e : n + 1 ≡ suc (0 + length done) = omega (arith, counted) in e) ∙ ap (zoned_after no_zones) (sym (parts_push 0 done line))
 
-pub stands_more : (done : List Reading) (line : Reading) (old new : Reader) → Stands done old → Takes old line new → Stands (done ++ line ∷ []) new
+pub stands_more : (done : List Reading) (line : Reading) (old new : Reader) → Stands done old → TakesNextLine old line new → Stands (done ++ line ∷ []) new
 stands_more done line old new s t = record {
   counted = omega (arith, t.counted, s.counted, length_push done line);
   order = t.order ∙ ap (λ o. noted o line) s.order ∙ noted_seen done line;

@@ -7,7 +7,7 @@ use Rattle.edi_line.specs.Feeding.{Zoned}
 use Rattle.edi_line.specs.Zones.{ends_group}
 use Rattle.edi_line.specs.inner.Borrowed.{begins_at}
 use Rattle.edi_line.specs.inner.Groups.{has_group}
-use Rattle.edi_line.specs.inner.ZoneLists.{all_but_last, last_of, done_of, open_of}
+use Rattle.edi_line.specs.inner.ZoneLists.{all_but_last, last_if_any, done_of, open_of}
 use Rattle.edi_line.specs.inner.Zones.{with_more}
 use Rattle.edi_line.specs.declared.zone.Zone.{Zone}
 
@@ -16,12 +16,12 @@ done_pushed [] x = refl
 done_pushed (y ∷ []) x = refl
 done_pushed (y ∷ (z ∷ zs)) x = ap (λ l. y ∷ l) (done_pushed (z ∷ zs) x)
 
-open_pushed : {X : Type 0} (xs : List X) (x : X) → last_of (xs ++ x ∷ []) ≡ Some x
+open_pushed : {X : Type 0} (xs : List X) (x : X) → last_if_any (xs ++ x ∷ []) ≡ Some x
 open_pushed [] x = refl
 open_pushed (y ∷ []) x = refl
 open_pushed (y ∷ (z ∷ zs)) x = open_pushed (z ∷ zs) x
 
-and_last : {X : Type 0} (xs : List X) → xs ≡ all_but_last xs ++ option_to_list (last_of xs)
+and_last : {X : Type 0} (xs : List X) → xs ≡ all_but_last xs ++ option_to_list (last_if_any xs)
 and_last [] = refl
 and_last (x ∷ []) = refl
 and_last (x ∷ (y ∷ ys)) = ap (λ l. x ∷ l) (and_last (y ∷ ys))
@@ -36,8 +36,8 @@ pub done_opened : {X : Type 0} (is_open : Bool) (xs ys : List X) (x : X) → ope
 done_opened is_open xs ys x none e =
     ap all_but_last e ∙ done_pushed xs x ∙ all_zones is_open xs ∙ ap (λ o. done_of is_open xs ++ option_to_list o) none ∙ append-nil (done_of is_open xs)
 
-pub open_opened : {X : Type 0} (xs ys : List X) (x : X) → ys ≡ xs ++ x ∷ [] → last_of ys ≡ Some x
-open_opened xs ys x e = ap last_of e ∙ open_pushed xs x
+pub open_opened : {X : Type 0} (xs ys : List X) (x : X) → ys ≡ xs ++ x ∷ [] → last_if_any ys ≡ Some x
+open_opened xs ys x e = ap last_if_any e ∙ open_pushed xs x
 
 front_taken : {X : Type 0} (xs : List X) (n : ℕ) → n + 1 ≡ length xs → take n xs ≡ all_but_last xs
 front_taken [] n e = absurd (omega arith)
@@ -52,7 +52,7 @@ done_taken false xs is some = absurd cc
 
 -- the open zone is all that is left
 pub open_left : {X : Type 0} (is_open : Bool) (front xs ys : List X) (x : X) → is_open ≡ true → xs ≡ front ++ x ∷ [] → ys ≡ x ∷ [] → open_of is_open ys ≡ open_of is_open xs
-open_left true front xs ys x is e left = ap last_of left ∙ sym (open_opened front xs x e)
+open_left true front xs ys x is e left = ap last_if_any left ∙ sym (open_opened front xs x e)
 open_left false front xs ys x is e left = absurd cc
 
 -- behind others the open zone ends their group, or doesn't
@@ -64,7 +64,7 @@ group_of_last false front xs z is e some = absurd cc
 
 -- ---- the open zone is lengthened
 
-item_last : {X : Type 0} (xs : List X) (n : ℕ) (d : X) → n + 1 ≡ length xs → last_of xs ≡ Some (slice_index_or xs n d)
+item_last : {X : Type 0} (xs : List X) (n : ℕ) (d : X) → n + 1 ≡ length xs → last_if_any xs ≡ Some (slice_index_or xs n d)
 item_last [] n d e = absurd (omega arith)
 item_last (x ∷ []) zero d e = refl
 item_last (x ∷ []) (suc n) d e = absurd (omega arith)
@@ -81,7 +81,7 @@ done_set (x ∷ (y ∷ [])) (suc (suc n)) v e = absurd (omega arith)
 done_set (x ∷ (y ∷ (z ∷ zs))) (suc zero) v e = absurd (omega arith)
 done_set (x ∷ (y ∷ (z ∷ zs))) (suc (suc n)) v e = ap (λ l. x ∷ l) (done_set (y ∷ (z ∷ zs)) (suc n) v (omega arith))
 
-open_set : {X : Type 0} (xs : List X) (n : ℕ) (v : X) → n + 1 ≡ length xs → last_of (slice_set xs n v) ≡ Some v
+open_set : {X : Type 0} (xs : List X) (n : ℕ) (v : X) → n + 1 ≡ length xs → last_if_any (slice_set xs n v) ≡ Some v
 open_set [] n v e = absurd (omega arith)
 open_set (x ∷ []) zero v e = refl
 open_set (x ∷ []) (suc n) v e = absurd (omega arith)
@@ -98,14 +98,14 @@ done_lengthened false xs n v is e = absurd cc
 pub open_lengthened : (is_open : Bool) (xs : List Zone) (n : ℕ) (old new : Zone) (more : List ℕ) → is_open ≡ true → n + 1 ≡ length xs → old ≡ slice_index_or xs n old → entry new ≡ with_more more (entry old)
     → option_map entry (open_of is_open (slice_set xs n new)) ≡ option_map (with_more more) (option_map entry (open_of is_open xs))
 open_lengthened true xs n old new more is e at longer =
-    let was : last_of xs ≡ Some old = item_last xs n old e ∙ ap (λ z. Some z) (sym at) in
+    let was : last_if_any xs ≡ Some old = item_last xs n old e ∙ ap (λ z. Some z) (sym at) in
     ap (option_map entry) (open_set xs n new e) ∙ ap (λ z. Some z) longer ∙ sym (ap (λ o. option_map (with_more more) (option_map entry o)) was)
 open_lengthened false xs n old new more is e at longer = absurd cc
 
 pub begun_lengthened : (is_open : Bool) (xs : List Zone) (n : ℕ) (old new : Zone) (more : List ℕ) → is_open ≡ true → n + 1 ≡ length xs → old ≡ slice_index_or xs n old → entry new ≡ with_more more (entry old)
     → begins_at (open_of is_open (slice_set xs n new)) ≡ begins_at (open_of is_open xs)
 begun_lengthened true xs n old new more is e at longer =
-    let was : last_of xs ≡ Some old = item_last xs n old e ∙ ap (λ z. Some z) (sym at) in
+    let was : last_if_any xs ≡ Some old = item_last xs n old e ∙ ap (λ z. Some z) (sym at) in
     ap begins_at (open_set xs n new e) ∙ ap (λ z. Some z.line) longer ∙ sym (ap begins_at was)
 begun_lengthened false xs n old new more is e at longer = absurd cc
 

@@ -5,7 +5,7 @@ ghost use Rattle.edi_line.specs.Bytes.{most_records};
 ghost use Rattle.edi_line.specs.ZoneData.{entries};
 ghost use Rattle.edi_line.specs.Feeding.{Refused, FeedState, HoldsFault, StandsFor, fault_seen, joined};
 ghost use Rattle.edi_line.specs.inner.Feeding.{refusal_seen, TakesAll, TakesFront, RefusesOne, RefusesIn};
-ghost use Rattle.edi_line.specs.inner.Held.{Takes, Refuses, Stands, zoned};
+ghost use Rattle.edi_line.specs.inner.Held.{TakesNextLine, BreaksAtNext, Stands, zoned};
 ghost use Rattle.edi_line.specs.Lines.{HasNoFeed, content_of};
 ghost use Rattle.edi_line.specs.LineRules.{BreaksLineRule, IsZonesOf};
 ghost use Rattle.edi_line.specs.Refusal.{IsUnbroken, IsLineRefusal, IfBroken};
@@ -210,10 +210,10 @@ fn take_first(
 ) -> Result<(), LineFault>
     requires room { reader.old.line + 1 < 2 ^ 64 }
     requires records { reader.old.order.records ≤ reader.old.line }
-    ensures ok { OnOk result (Takes reader.old (reading_of (content_of (pending.old.items ++ line.now))) reader.new) }
+    ensures ok { OnOk result (TakesNextLine reader.old (reading_of (content_of (pending.old.items ++ line.now))) reader.new) }
     ensures empty { OnOk result (pending.new.items ≡ []) }
     ensures broken { IfErr result
-        (IfBroken (Refuses reader.old (reading_of (content_of (pending.old.items ++ line.now))))) }
+        (IfBroken (BreaksAtNext reader.old (reading_of (content_of (pending.old.items ++ line.now))))) }
 {
     if pending.is_empty() {
         return reader.take_copied(alloc, lines::content(line));

@@ -3,7 +3,7 @@
 ghost use Rattle.std.specs.Prelude.{◌≡◌, ℕ, List, ◌+◌, ◌<◌, ◌≤◌, [], ◌∷◌, ◌++◌, length, ◌==◌, take, drop, map, position, IfSome, IsNone};
 ghost use Rattle.std.specs.Simd.Lanes.{mask_l};
 ghost use Rattle.edi_line.specs.Lines.{HasNoFeed, IsEnded, IsLinesOf, without_last, content_of};
-ghost use Rattle.edi_line.specs.inner.Lines.{lines_of};
+ghost use Rattle.edi_line.specs.inner.Lines.{lines_in};
 
 use memchr::memchr;
 use std::simd::prelude::*;
@@ -14,7 +14,7 @@ const LANES: usize = 32;
 /// The first line, with its line feed if it has one, and the bytes behind it.
 pub(crate) fn first_line(bytes: &[u8]) -> (&[u8], &[u8])
     requires { 0 < length bytes.now }
-    ensures lines { lines_of bytes.now ≡ result.0.now ∷ lines_of result.1.now }
+    ensures lines { lines_in bytes.now ≡ result.0.now ∷ lines_in result.1.now }
     ensures shorter { length result.1.now < length bytes.now }
 {
     bytes.split_at(first_end(bytes))
@@ -35,7 +35,7 @@ fn first_end(bytes: &[u8]) -> usize
     requires { 0 < length bytes.now }
     ensures some { 0 < result }
     ensures within { result ≤ length bytes.now }
-    ensures lines { lines_of bytes.now ≡ take result bytes.now ∷ lines_of (drop result bytes.now) }
+    ensures lines { lines_in bytes.now ≡ take result bytes.now ∷ lines_in (drop result bytes.now) }
 {
     match feed_in(bytes) {
         Some(feed) => feed + 1,

@@ -4,7 +4,7 @@ ghost use Rattle.std.specs.Prelude.{◌≡◌, ℕ, List, ◌+◌, ◌*◌, ◌/
 ghost use Rattle.std.specs.Simd.Lanes.{mask_l};
 ghost use Rattle.std.specs.Str.Parse.{AllDigits, digits_value};
 ghost use Rattle.edi_line.specs.Number.{IsNumberText, IsWhole, IsFraction, signed_by, size_of, MOST, signed_text, plain_text, size_text, fraction_text, fraction_digits};
-ghost use Rattle.edi_line.specs.inner.Number.{number, sign_of, body_of, whole_of, fraction_of};
+ghost use Rattle.edi_line.specs.inner.Number.{number, sign_bytes, body_of, whole_of, fraction_of};
 
 use itoa::Buffer;
 use std::alloc::{AllocError, Global};
@@ -109,7 +109,7 @@ impl Num {
 
 /// The sign in front, if any, and the rest.
 fn split_sign(text: &[u8]) -> (&[u8], &[u8])
-    ensures sign { result.0.now ≡ sign_of text.now }
+    ensures sign { result.0.now ≡ sign_bytes text.now }
     ensures rest { result.1.now ≡ body_of text.now }
 {
     let signs = match text {

@@ -14,7 +14,7 @@ ghost use Rattle.std.specs.Cow.{cow_slice_items};
 ghost use Rattle.edi_line.specs.Printing.{IsPrintable, printed, line_numbered};
 ghost use Rattle.edi_line.specs.inner.Borrowed.{BorrowsLines, Leaves, LeavesAfter};
 ghost use Rattle.edi_line.specs.inner.ZoneLists.{done_in, open_in};
-ghost use Rattle.edi_line.specs.inner.Held.{rule_of_kind, noted_kind, opened, Steps, Takes, Refuses, Stands, zoned, step, closed};
+ghost use Rattle.edi_line.specs.inner.Held.{rule_of_kind, noted_kind, opened, Steps, TakesNextLine, BreaksAtNext, Stands, zoned, zoned_step, closed};
 ghost use Rattle.edi_line.specs.Spelling.{Reading, AreReadings};
 ghost use Rattle.edi_line.specs.inner.Spelling.{reading_of, spelling_shown};
 
@@ -53,11 +53,11 @@ impl<'a> Reader<'a> {
     pub(crate) fn take_line(&mut self, alloc: Global, content: &'a [u8]) -> Result<(), LineFault>
         requires line { self.old.line + 1 < 2 ^ 64 }
         requires records { self.old.order.records ≤ self.old.line }
-        ensures ok { OnOk result (Takes self.old (reading_of content.now) self.new) }
+        ensures ok { OnOk result (TakesNextLine self.old (reading_of content.now) self.new) }
         ensures borrows { OnOk result ((lines : List Reading) → length lines ≡ self.old.line
             → BorrowsLines lines self.old
             → BorrowsLines (lines ++ reading_of content.now ∷ []) self.new) }
-        ensures broken { IfErr result (IfBroken (Refuses self.old (reading_of content.now))) }
+        ensures broken { IfErr result (IfBroken (BreaksAtNext self.old (reading_of content.now))) }
     {
         if let Some(spelled) = self.step(alloc, content)? {
             self.begin(spelled, CowSlice::Borrowed(spelled.value))?;
@@ -69,8 +69,8 @@ impl<'a> Reader<'a> {
     pub(crate) fn take_copied(&mut self, alloc: Global, content: &[u8]) -> Result<(), LineFault>
         requires line { self.old.line + 1 < 2 ^ 64 }
         requires records { self.old.order.records ≤ self.old.line }
-        ensures ok { OnOk result (Takes self.old (reading_of content.now) self.new) }
-        ensures broken { IfErr result (IfBroken (Refuses self.old (reading_of content.now))) }
+        ensures ok { OnOk result (TakesNextLine self.old (reading_of content.now) self.new) }
+        ensures broken { IfErr result (IfBroken (BreaksAtNext self.old (reading_of content.now))) }
     {
         if let Some(spelled) = self.step(alloc, content)? {
             let value = Vec::from_slice(alloc, spelled.value)?;
@@ -92,7 +92,7 @@ impl<'a> Reader<'a> {
             Steps self.old (reading_of content.now) (option_map spelling_shown begun) self.new) }
         ensures leaves { OnOk result (LeavesAfter (reading_of content.now) self.old self.new) }
         ensures begun { IfOk result (λ begun. IfSome begun (λ s. open_in self.new.zones ≡ None)) }
-        ensures broken { IfErr result (IfBroken (Refuses self.old (reading_of content.now))) }
+        ensures broken { IfErr result (IfBroken (BreaksAtNext self.old (reading_of content.now))) }
     {
         self.line += 1;
         match read_content(content) {
@@ -117,7 +117,7 @@ impl<'a> Reader<'a> {
         ensures no_rule { OnOk result (rule_of_kind self.old.order (kind_in spelled.entry.code) ≡ None) }
         ensures order { OnOk result (self.new.order ≡ noted_kind self.old.order (kind_in spelled.entry.code)) }
         ensures zones { IfOk result (λ begun. opened self.old.line (option_map spelling_shown begun) (zoned self.new)
-            ≡ step (part_by (kind_in spelled.entry.code) self.old.line (spelling_shown spelled.entry))
+            ≡ zoned_step (part_by (kind_in spelled.entry.code) self.old.line (spelling_shown spelled.entry))
             (zoned self.old)) }
         ensures leaves { OnOk result (Leaves (kind_in spelled.entry.code) self.old self.new) }
         ensures begun { IfOk result (λ begun. IfSome begun (λ s. open_in self.new.zones ≡ None)) }
@@ -146,7 +146,7 @@ impl<'a> Reader<'a> {
         ensures line { OnOk result (self.new.line ≡ self.old.line) }
         ensures order { OnOk result (self.new.order ≡ self.old.order) }
         ensures zones { IfOk result (λ begun. opened self.old.line (option_map spelling_shown begun) (zoned self.new)
-            ≡ step (part_by kind self.old.line (spelling_shown spelled.entry)) (zoned self.old)) }
+            ≡ zoned_step (part_by kind self.old.line (spelling_shown spelled.entry)) (zoned self.old)) }
         ensures leaves { OnOk result (Leaves kind self.old self.new) }
         ensures begun { IfOk result (λ begun. IfSome begun (λ s. open_in self.new.zones ≡ None)) }
     {

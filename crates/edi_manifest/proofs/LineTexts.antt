@@ -9,7 +9,7 @@ use Rattle.sha2.specs.Sha256.{sha256}
 use Rattle.edi_line.specs.Lines.{IsEnded}
 use Rattle.edi_delivery.specs.NameParts.{is_word_byte, is_file_byte, is_file_name}
 use Rattle.edi_manifest.specs.ManifestText.{IsManifestLine, digested_text, manifest_line, last_line}
-use Rattle.edi_manifest.specs.inner.Reading.{Lacks}
+use Rattle.edi_manifest.specs.inner.Reading.{HasNoByte}
 use Rattle.edi_manifest.specs.declared.line.Digested.{Digested}
 use Rattle.edi_manifest.specs.declared.line.Digested.TheVariants.{Schema, Sheet, Coordinates}
 use Rattle.edi_manifest.specs.declared.line.ManifestLine.{ManifestLine}
@@ -31,28 +31,28 @@ name_bytes : (P : ℕ → Type 0) → ((c : ℕ) → is_file_byte c ≡ true →
 name_bytes P to [] e = tt
 name_bytes P to (c ∷ cs) e = let p = and_parts _ _ e in (to c (file_of_word c p.0), all_of P to cs (and_parts _ _ p.1).0)
 
-pub name_lacks : (byte : ℕ) → is_file_byte byte ≡ false → (name : List ℕ) → is_file_name name ≡ true → Lacks byte name
+pub name_lacks : (byte : ℕ) → is_file_byte byte ≡ false → (name : List ℕ) → is_file_name name ≡ true → HasNoByte byte name
 name_lacks byte apart name e = name_bytes (λ c. c ≢ byte) other name e
   where
     other : (c : ℕ) → is_file_byte c ≡ true → c ≢ byte
     other c f same = let lie : false ≡ true = sym apart ∙ (ap is_file_byte (sym same) ∙ f) in absurd cc
 
-found_lacks : (byte : ℕ) (xs : List ℕ) → Lacks byte xs → 0 ≢ byte → (k : ℕ) → get_or xs k 0 ≢ byte
+found_lacks : (byte : ℕ) (xs : List ℕ) → HasNoByte byte xs → 0 ≢ byte → (k : ℕ) → get_or xs k 0 ≢ byte
 found_lacks byte [] h zero_apart k = zero_apart
 found_lacks byte (x ∷ xs) h zero_apart zero = h.0
 found_lacks byte (x ∷ xs) h zero_apart (suc k) = found_lacks byte xs h.1 zero_apart k
 
 -- digits don't have a byte that isn't one
-pub digits_lack_any : (byte : ℕ) → Lacks byte lower_digits → 0 ≢ byte → (bytes : List ℕ) → Lacks byte (encode_lower bytes)
+pub digits_lack_any : (byte : ℕ) → HasNoByte byte lower_digits → 0 ≢ byte → (bytes : List ℕ) → HasNoByte byte (encode_lower bytes)
 unfolding encode_with
 digits_lack_any byte h zero_apart [] = tt
 digits_lack_any byte h zero_apart (b ∷ bytes) =
     (found_lacks byte lower_digits h zero_apart (b / 16), (found_lacks byte lower_digits h zero_apart (b % 16), digits_lack_any byte h zero_apart bytes))
 
-pub digits_lack : (bytes : List ℕ) → Lacks 10 (encode_lower bytes)
+pub digits_lack : (bytes : List ℕ) → HasNoByte 10 (encode_lower bytes)
 digits_lack = digits_lack_any 10 (search arith) (search arith)
 
-word_lacks_feed : (d : Digested) → Lacks 10 (digested_text d)
+word_lacks_feed : (d : Digested) → HasNoByte 10 (digested_text d)
 word_lacks_feed Schema = search arith
 word_lacks_feed Sheet = search arith
 word_lacks_feed Coordinates = search arith
@@ -63,7 +63,7 @@ word_lacks_feed Coordinates = search arith
 abbrev pub content_of_line : ManifestLine → List ℕ
 content_of_line line = line.name ++ 32 ∷ (digested_text line.digested ++ encode_lower line.digest)
 
-pub content_lacks : (line : ManifestLine) → IsManifestLine line → Lacks 10 (content_of_line line)
+pub content_lacks : (line : ManifestLine) → IsManifestLine line → HasNoByte 10 (content_of_line line)
 content_lacks line h =
     all_append (λ c. c ≢ 10) line.name _ (name_lacks 10 refl line.name h.name)
     (search arith, all_append (λ c. c ≢ 10) (digested_text line.digested) (encode_lower line.digest) (word_lacks_feed line.digested) (digits_lack line.digest))
@@ -78,7 +78,7 @@ line_ended line h = record { bytes = content_of_line line; no_feed = content_lac
 
 -- ---- a text is of one line
 
-pub cut_same : (byte : ℕ) (a b r s : List ℕ) → Lacks byte a → Lacks byte b → a ++ byte ∷ r ≡ b ++ byte ∷ s → (a ≡ b) × (r ≡ s)
+pub cut_same : (byte : ℕ) (a b r s : List ℕ) → HasNoByte byte a → HasNoByte byte b → a ++ byte ∷ r ≡ b ++ byte ∷ s → (a ≡ b) × (r ≡ s)
 cut_same byte [] [] r s h k e = (refl, (let same : r ≡ s = cc in same))
 cut_same byte [] (y ∷ ys) r s h k e = let same : y ≡ byte = cc in absurd (k.0 same)
 cut_same byte (x ∷ xs) [] r s h k e = let same : x ≡ byte = cc in absurd (h.0 same)
@@ -88,7 +88,7 @@ cut_same byte (x ∷ xs) (y ∷ ys) r s h k e =
     let rest = cut_same byte xs ys r s h.1 k.1 tail in
     (ap (λ c. c ∷ xs) head ∙ ap (λ t. y ∷ t) rest.0, rest.1)
 
-pub last_same : (xs ys : List ℕ) → xs ++ 10 ∷ [] ≡ ys ++ 10 ∷ [] → Lacks 10 xs → Lacks 10 ys → xs ≡ ys
+pub last_same : (xs ys : List ℕ) → xs ++ 10 ∷ [] ≡ ys ++ 10 ∷ [] → HasNoByte 10 xs → HasNoByte 10 ys → xs ≡ ys
 last_same xs ys e h k = (cut_same 10 xs ys [] [] h k e).0
 
 -- behind the space the words and what follows

@@ -19,7 +19,7 @@ use Rattle.edi_schema.specs.Sorted.{sort_by}
 use Rattle.edi_schema.proofs.SortedLists.{IsPermutation-sort_by, NeverFalls-sort_by, sort_by-in_order}
 use Rattle.edi_delivery.specs.NameParts.{is_file_name}
 use Rattle.edi_manifest.specs.ManifestText.{IsManifestLine, digested_text, manifest_line, manifest_lines, manifest_head, manifest_body, last_line, manifest_text}
-use Rattle.edi_manifest.specs.inner.Reading.{Lacks}
+use Rattle.edi_manifest.specs.inner.Reading.{HasNoByte}
 use Rattle.edi_manifest.specs.declared.line.Digested.{Digested}
 use Rattle.edi_manifest.specs.declared.line.ManifestLine.{ManifestLine}
 use Rattle.edi_manifest.proofs.ByteOrder.{bytes_total, bytes_exact}
@@ -28,7 +28,7 @@ use Rattle.edi_manifest.proofs.SameLines.{push_same, moved_all}
 
 -- ---- the first such byte
 
-lacks_before : (byte : ℕ) (bytes : List ℕ) (n : ℕ) → n ≤ length bytes → n ≤ position_or_len (λ c. eqb c byte) bytes → Lacks byte (take n bytes)
+lacks_before : (byte : ℕ) (bytes : List ℕ) (n : ℕ) → n ≤ length bytes → n ≤ position_or_len (λ c. eqb c byte) bytes → HasNoByte byte (take n bytes)
 lacks_before byte bytes n within before =
     recursion_from_All (λ c. c ≢ byte) (take n bytes) (All-from_get_or (λ c. c ≢ byte) (take n bytes) 0 (λ i below e.
     let long : length (take n bytes) ≡ n = length-take-le n bytes within in
@@ -36,13 +36,13 @@ lacks_before byte bytes n within before =
     let same : get_or (take n bytes) i 0 ≡ get_or bytes i 0 = get_or-take n bytes i 0 here in
     eqb-false _ _ (fails_before_first (λ c. eqb c byte) bytes i 0 (omega arith)) (sym same ∙ e)))
 
-pub none_lacks : (byte : ℕ) (bytes : List ℕ) → position (λ c. eqb c byte) bytes ≡ None → Lacks byte bytes
+pub none_lacks : (byte : ℕ) (bytes : List ℕ) → position (λ c. eqb c byte) bytes ≡ None → HasNoByte byte bytes
 none_lacks byte bytes e =
     let past = position_at_None (λ c. eqb c byte) bytes e in
-    subst (Lacks byte) (take_all (length bytes) bytes (omega arith)) (lacks_before byte bytes (length bytes) (omega arith) past)
+    subst (HasNoByte byte) (take_all (length bytes) bytes (omega arith)) (lacks_before byte bytes (length bytes) (omega arith) past)
 
 pub cut_found : (byte : ℕ) (bytes front rest : List ℕ) (place : ℕ) → position (λ c. eqb c byte) bytes ≡ Some place → front ≡ take place bytes → rest ≡ drop place bytes
-    → (bytes ≡ front ++ byte ∷ take (length rest - 1) (drop 1 rest)) × Lacks byte front
+    → (bytes ≡ front ++ byte ∷ take (length rest - 1) (drop 1 rest)) × HasNoByte byte front
 cut_found byte bytes front rest place e is_front is_rest =
     let found = position_at_Some (λ c. eqb c byte) bytes place e in
     let at : get_or bytes place 0 ≡ byte = eqb-true _ _ (subst (λ n. eqb (get_or bytes n 0) byte ≡ true) found.0 (passes_at_first (λ c. eqb c byte) bytes 0 (omega arith))) in
@@ -50,10 +50,10 @@ cut_found byte bytes front rest place e is_front is_rest =
     let behind : take (length rest - 1) (drop 1 rest) ≡ drop (suc place) bytes =
     ap (λ r. take (length r - 1) (drop 1 r)) (is_rest ∙ cons) ∙ take_all (length (byte ∷ drop (suc place) bytes) - 1) (drop (suc place) bytes) (omega arith) in (
       sym (take-append-drop place bytes) ∙ (ap (λ t. take place bytes ++ t) (cons ∙ ap (λ t. byte ∷ t) (sym behind)) ∙ ap (λ t. t ++ byte ∷ take (length rest - 1) (drop 1 rest)) (sym is_front)),
-      subst (Lacks byte) (sym is_front) (lacks_before byte bytes place (omega (arith, found.1)) (omega (arith, found.0))),
+      subst (HasNoByte byte) (sym is_front) (lacks_before byte bytes place (omega (arith, found.1)) (omega (arith, found.0))),
     )
 
-pub no_cut : (byte : ℕ) (a b : List ℕ) → Lacks byte (a ++ byte ∷ b) → ⊥
+pub no_cut : (byte : ℕ) (a b : List ℕ) → HasNoByte byte (a ++ byte ∷ b) → ⊥
 no_cut byte [] b h = h.0 refl
 no_cut byte (x ∷ a) b h = no_cut byte a b h.1
 
@@ -63,10 +63,10 @@ module _ (line : ManifestLine) (h : IsManifestLine line) (content : List ℕ) (e
   pub content_is : content ≡ line.name ++ 32 ∷ (digested_text line.digested ++ encode_lower line.digest)
   content_is = push_same content (content_of_line line) 10 10 (e ∙ line_is line)
 
-  pub has_space : Lacks 32 content → ⊥
-  has_space lacks = no_cut 32 line.name (digested_text line.digested ++ encode_lower line.digest) (subst (Lacks 32) content_is lacks)
+  pub has_space : HasNoByte 32 content → ⊥
+  has_space lacks = no_cut 32 line.name (digested_text line.digested ++ encode_lower line.digest) (subst (HasNoByte 32) content_is lacks)
 
-  pub parts_are : (name behind : List ℕ) → content ≡ name ++ 32 ∷ behind → Lacks 32 name → (name ≡ line.name) × (behind ≡ digested_text line.digested ++ encode_lower line.digest)
+  pub parts_are : (name behind : List ℕ) → content ≡ name ++ 32 ∷ behind → HasNoByte 32 name → (name ≡ line.name) × (behind ≡ digested_text line.digested ++ encode_lower line.digest)
   parts_are name behind cut lacks = cut_same 32 name line.name behind (digested_text line.digested ++ encode_lower line.digest) lacks (name_lacks 32 refl line.name h.name) (sym cut ∙ content_is)
 
 -- ---- the text without its first line and its last
@@ -141,12 +141,12 @@ module _ (texts : List (List ℕ)) (all : AllByRecursion IsOfLine texts) (found 
         r.left ∙ (ap concat e ∙ (ap (λ x. x ++ concat ts) (sym of.2 ∙ line_is of.0) ∙ append_assoc (content_of_line of.0) (10 ∷ []) (concat ts))),
       )
 
-  pub all_read : Lacks 10 rest → map manifest_line found ≡ texts
+  pub all_read : HasNoByte 10 rest → map manifest_line found ≡ texts
   all_read lacks = go r.todo refl
     where
       go : (todo : List (List ℕ)) → r.todo ≡ todo → map manifest_line found ≡ texts
       go [] e = sym (r.cut ∙ (ap (λ x. map manifest_line found ++ x) e ∙ append-nil (map manifest_line found)))
-      go (t ∷ ts) e = let n = next t ts e in absurd (no_cut 10 (content_of_line n.0) (concat n.1) (subst (Lacks 10) n.4 lacks))
+      go (t ∷ ts) e = let n = next t ts e in absurd (no_cut 10 (content_of_line n.0) (concat n.1) (subst (HasNoByte 10) n.4 lacks))
 
   -- the line in front
   pub record FindsNext (content behind : List ℕ) : Type 0 where
@@ -155,7 +155,7 @@ module _ (texts : List (List ℕ)) (all : AllByRecursion IsOfLine texts) (found 
     pub content_of : content ++ 10 ∷ [] ≡ manifest_line line
     pub more : (new : List ManifestLine) → new ≡ found ++ line ∷ [] → ReadUpTo texts new behind
 
-  pub finds_next : (content behind : List ℕ) → rest ≡ content ++ 10 ∷ behind → Lacks 10 content → FindsNext content behind
+  pub finds_next : (content behind : List ℕ) → rest ≡ content ++ 10 ∷ behind → HasNoByte 10 content → FindsNext content behind
   finds_next content behind cut lacks = go r.todo refl
     where
       go : (todo : List (List ℕ)) → r.todo ≡ todo → FindsNext content behind

@@ -7,7 +7,7 @@ use Rattle.std.proofs.lemmas.List.Elements.{recursion_from_All, All-from_recursi
 use Rattle.std.proofs.lemmas.List.Folds.{concat-append}
 use Rattle.std.proofs.lemmas.List.Sorted.{IsPermutation-map, IsPermutation-sym, IsPermutation-trans, All-permutation}
 use Rattle.edi_line.specs.Lines.{IsEnded, AreLines, IsLinesOf}
-use Rattle.edi_line.specs.inner.Lines.{lines_of}
+use Rattle.edi_line.specs.inner.Lines.{lines_in}
 use Rattle.edi_line.proofs.Cut.{lines_unique}
 use Rattle.edi_record.specs.Orders.{bytes_cmp}
 use Rattle.edi_schema.specs.Sorted.{sort_by}
@@ -78,7 +78,7 @@ tail_same x y xs ys e = cc
 
 sorted_same : (ls ms : List ManifestLine) → AllByRecursion IsManifestLine ls → AllByRecursion IsManifestLine ms → manifest_text ls ≡ manifest_text ms → manifest_lines ls ≡ manifest_lines ms
 sorted_same ls ms h k e =
-    let whole : all_lines ls ≡ all_lines ms = lines_unique (manifest_text ls) (all_lines ls) (text_lines ls h) ∙ (ap lines_of e ∙ sym (lines_unique (manifest_text ms) (all_lines ms) (text_lines ms k))) in
+    let whole : all_lines ls ≡ all_lines ms = lines_unique (manifest_text ls) (all_lines ls) (text_lines ls h) ∙ (ap lines_in e ∙ sym (lines_unique (manifest_text ms) (all_lines ms) (text_lines ms k))) in
     push_same (manifest_lines ls) (manifest_lines ms) (last_line (manifest_body ls)) (last_line (manifest_body ms)) (tail_same manifest_head manifest_head _ _ whole)
 
 -- ---- lists of lines

@@ -5,7 +5,7 @@ ghost use Rattle.std.specs.Prelude.{Some, option_map, IfOk, IfSome, MatchOption}
 ghost use Rattle.hex.specs.Hex.{encode_lower, IsBytes};
 ghost use Rattle.std.specs.List.{AllByRecursion};
 ghost use Rattle.edi_manifest.specs.ManifestText.{digested_text, manifest_text, IsManifestLine, IsNoManifest};
-ghost use Rattle.edi_manifest.specs.inner.Reading.{Lacks, FindsWord, FindsLine, FindsBody, FindsLines};
+ghost use Rattle.edi_manifest.specs.inner.Reading.{HasNoByte, FindsDigested, FindsManifestLine, FindsBody, FindsManifestLines};
 
 use crate::line::{Digested, ManifestLine};
 use crate::writing::{HEAD, manifest};
@@ -18,7 +18,7 @@ const LAST_LEN: usize = 72;
 
 /// What the word in front of a text says, and the text behind it.
 fn word_in(text: &[u8]) -> Option<(Digested, &[u8])>
-    ensures { FindsWord text.now result }
+    ensures { FindsDigested text.now result }
 {
     if let Some(behind) = text.strip_prefix(b"schema ") {
         return Some((Digested::Schema, behind));
@@ -49,8 +49,8 @@ fn place_of(bytes: &[u8], byte: u8) -> Option<usize>
 
 /// What stands in front of the first such byte, and what behind it.
 pub fn cut_at(bytes: &[u8], byte: u8) -> Option<(&[u8], &[u8])>
-    ensures cut { MatchOption result (Lacks byte bytes.now)
-        (λ p. (bytes.now ≡ p.0.now ++ byte ∷ p.1.now) × Lacks byte p.0.now) }
+    ensures cut { MatchOption result (HasNoByte byte bytes.now)
+        (λ p. (bytes.now ≡ p.0.now ++ byte ∷ p.1.now) × HasNoByte byte p.0.now) }
     ensures shorter { IfSome result (λ p. length p.1.now < length bytes.now) }
 {
     let Some(place) = place_of(bytes, byte) else {
@@ -65,7 +65,7 @@ pub fn cut_at(bytes: &[u8], byte: u8) -> Option<(&[u8], &[u8])>
 
 /// The line with this content, which has no line feed.
 fn line_in(alloc: Global, content: &[u8]) -> Result<Option<ManifestLine>, AllocError>
-    ensures finds { IfOk result (FindsLine content.now) }
+    ensures finds { IfOk result (FindsManifestLine content.now) }
     ensures is { IfOk result (λ found. IfSome found IsManifestLine) }
 {
     let Some((name, behind)) = cut_at(content, b' ') else {
@@ -100,7 +100,7 @@ fn body_in(text: &[u8]) -> Option<&[u8]>
 
 /// The lines of these bytes, or none where one of them isn't in form.
 fn lines_in(alloc: Global, body: &[u8]) -> Result<Option<Vec<ManifestLine>>, AllocError>
-    ensures finds { IfOk result (λ found. FindsLines body.now (option_map (λ lines. lines.items) found)) }
+    ensures finds { IfOk result (λ found. FindsManifestLines body.now (option_map (λ lines. lines.items) found)) }
     ensures are { IfOk result (λ found. IfSome found (λ lines. AllByRecursion IsManifestLine lines.items)) }
 {
     let mut found = Vec::new(alloc);

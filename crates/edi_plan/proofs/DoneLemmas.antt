@@ -14,7 +14,7 @@ use Rattle.edi_schema.specs.declared.role.Role.{Role}
 use Rattle.edi_schema.specs.declared.role.Role.TheVariants.{Initial, Final, Left, Right, Plain}
 use Rattle.edi_plan.specs.inner.Done.{JoinsIn, IsLinkAt, JoinsBefore, IsJoinIfAny, IsDone}
 use Rattle.edi_plan.specs.Joined.{beside}
-use Rattle.edi_plan.specs.inner.Names.{RepeatsAt}
+use Rattle.edi_plan.specs.inner.Names.{RepeatsNameAt}
 use Rattle.edi_plan.specs.ReferenceRules.{IsRecordAt, Names, IsLinkOfRole, RepeatsSide, BreaksReferenceRule}
 use Rattle.edi_plan.specs.ReferenceRules.BreaksReferenceRule.{repeats_name, lacks_class, lacks_attribute_class, leaves_subset, names_nothing, joins_wrong, repeats_side}
 use Rattle.edi_plan.specs.inner.Resolving.{first_subset, role_of_link, reference_tests}
@@ -176,7 +176,7 @@ module _ (s : Classes) (list : List Record) (place : ℕ) (r : Record) (here : s
   test_breaks rule (inr (inr (inr (inr (inr (inr h)))))) = absurd h
 
   -- a rule but 301 that is broken here is one of the tests, or 307 beside 306
-  pub breaks_test : (rule : ℕ) → BreaksReferenceRule s list rule (suc place) → ¬ (RepeatsAt list place) → BreaksTest (reference_tests s (first_subset list) own table r) rule ⊎ ((rule ≡ 307) × BreaksTest (reference_tests s (first_subset list) own table r) 306)
+  pub breaks_test : (rule : ℕ) → BreaksReferenceRule s list rule (suc place) → ¬ (RepeatsNameAt list place) → BreaksTest (reference_tests s (first_subset list) own table r) rule ⊎ ((rule ≡ 307) × BreaksTest (reference_tests s (first_subset list) own table r) 306)
   breaks_test rule (repeats_name e d) fresh =
       absurd (fresh (d.0 - 1, d.1, r, omega (arith, d.3, d.4.0), d.4.1, here, d.6 ∙ ap Rattle.edi_plan.specs.PlanOf.own_name (one_record d.2 d.5)))
   breaks_test rule (lacks_class e d) fresh = inl (inl (sym e, from_302 s list place r here d))
@@ -195,14 +195,14 @@ module _ (s : Classes) (list : List Record) (place : ℕ) (r : Record) (here : s
 
   -- ---- the least rule here, and no rule here
 
-  pub clean_here : first_broken (reference_tests s (first_subset list) own table r) ≡ None → ¬ (RepeatsAt list place) → (rule : ℕ) → ¬ (BreaksReferenceRule s list rule (suc place))
+  pub clean_here : first_broken (reference_tests s (first_subset list) own table r) ≡ None → ¬ (RepeatsNameAt list place) → (rule : ℕ) → ¬ (BreaksReferenceRule s list rule (suc place))
   clean_here none fresh rule d = go (breaks_test rule d fresh)
     where
       go : BreaksTest (reference_tests s (first_subset list) own table r) rule ⊎ ((rule ≡ 307) × BreaksTest (reference_tests s (first_subset list) own table r) 306) → ⊥
       go (inl b) = none_broken (reference_tests s (first_subset list) own table r) none rule b
       go (inr (e, b)) = none_broken (reference_tests s (first_subset list) own table r) none 306 b
 
-  pub least_here : (rule : ℕ) → first_broken (reference_tests s (first_subset list) own table r) ≡ Some rule → ¬ (RepeatsAt list place)
+  pub least_here : (rule : ℕ) → first_broken (reference_tests s (first_subset list) own table r) ≡ Some rule → ¬ (RepeatsNameAt list place)
       → BreaksReferenceRule s list rule (suc place) × ((q : ℕ) → BreaksReferenceRule s list q (suc place) → rule ≤ q)
   least_here rule e fresh = (test_breaks rule least.breaks, λ q d. go q (breaks_test q d fresh))
     where
@@ -283,7 +283,7 @@ module _ (s : Classes) (list : List Record) (place : ℕ) (r : Record) (here : s
               true≢false (sym yes ∙ t))
               (side_at table a o) (before.noted a o h)
 
-  pub step_done : (new : List (ByRole (Option ℕ))) → first_broken (reference_tests s (first_subset list) own table r) ≡ None → ¬ (RepeatsAt list place) → IsNoted table role (link_join role own) new → IsDone s list (place + 1) new
+  pub step_done : (new : List (ByRole (Option ℕ))) → first_broken (reference_tests s (first_subset list) own table r) ≡ None → ¬ (RepeatsNameAt list place) → IsNoted table role (link_join role own) new → IsDone s list (place + 1) new
   step_done new none fresh noted = subst (λ k. IsDone s list k new) (sym (Rattle.std.proofs.Common.add-one place)) (record {
     long = noted.long ∙ before.long;
     unbroken = λ k rule less. unbroken k rule (cases_lt k place) less;
@@ -323,7 +323,7 @@ refused_at s list place table before rule found = subst (IsLeastBroken (BreaksRe
         go (inr past) (inl above) = inl (omega arith)
         go (inr past) (inr same) = let e : k ≡ place = omega arith in inr (omega arith, found.1 r (subst (λ j. BreaksReferenceRule s list r (suc j)) e h))
 
-pub repeats_301 : (s : Classes) (list : List Record) (place : ℕ) → RepeatsAt list place → BreaksReferenceRule s list 301 (suc place) × ((q : ℕ) → BreaksReferenceRule s list q (suc place) → 301 ≤ q)
+pub repeats_301 : (s : Classes) (list : List Record) (place : ℕ) → RepeatsNameAt list place → BreaksReferenceRule s list 301 (suc place) × ((q : ℕ) → BreaksReferenceRule s list q (suc place) → 301 ≤ q)
 repeats_301 s list place d =
     (repeats_name refl (suc d.0, d.1, d.2, omega (arith, d.3), at d.0 d.1 d.4, at place d.2 d.5, d.6), λ q h. (low s list q (suc place) h).0)
   where

@@ -24,7 +24,7 @@ use Rattle.edi_plan.specs.Plans.{same_kind}
 use Rattle.edi_plan.specs.ReferenceRules.{Names, IsLinkOfRole, RepeatsRecordName, RepeatsSide}
 use Rattle.edi_plan.specs.RecordsUnderSchema.{RecordsUnderSchema}
 use Rattle.edi_plan.specs.inner.Findings.{AreLinkFindings, AreRepeats, EachAt, arc_place, is_arc_at, is_sided, NamesArcBefore, AreSided, IsLinkFinding}
-use Rattle.edi_plan.specs.inner.Names.{RepeatsAt}
+use Rattle.edi_plan.specs.inner.Names.{RepeatsNameAt}
 use Rattle.edi_plan.specs.inner.Resolving.{role_of_link}
 use Rattle.edi_plan.specs.inner.SideTable.{join_in, link_join, side_at, HaveEntries}
 use Rattle.edi_plan.specs.inner.Targets.{IsTargetIfAny}
@@ -78,10 +78,10 @@ link_found s list found place d all less = all.each place (get_or found place d)
 pub repeat_found : (s : Classes) (list : List Record) (found : List Bool) (place : ℕ) (d : Bool) → AreRepeats s list found → place < length list → IsTrue (get_or found place d) ↔ RepeatsRecordName s list (suc place)
 repeat_found s list found place d all less = all.each place (get_or found place d) (slice_get-get_or found place d (omega (arith, less, all.long)))
 
-pub repeats_record : (s : Classes) (list : List Record) (n : ℕ) → RepeatsAt list n → RepeatsRecordName s list (suc n)
+pub repeats_record : (s : Classes) (list : List Record) (n : ℕ) → RepeatsNameAt list n → RepeatsRecordName s list (suc n)
 repeats_record s list n d = (suc d.0, d.1, d.2, omega (arith, d.3), is_at s list d.0 d.1 d.4, is_at s list n d.2 d.5, d.6)
 
-pub record_repeats : (s : Classes) (list : List Record) (n : ℕ) → RepeatsRecordName s list (suc n) → RepeatsAt list n
+pub record_repeats : (s : Classes) (list : List Record) (n : ℕ) → RepeatsRecordName s list (suc n) → RepeatsNameAt list n
 record_repeats s list n d = (d.0 - 1, d.1, d.2, omega (arith, d.3, d.4.0), d.4.1, subst (λ k. slice_get list k ≡ Some d.2) (omega arith) d.5.1, d.6)
 
 -- ---- the role of a class that the schema lacks

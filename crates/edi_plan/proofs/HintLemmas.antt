@@ -10,9 +10,9 @@ use Rattle.edi_record.specs.declared.record.Kind.TheVariants.{Pno, Par, Pfe, Fea
 use Rattle.edi_record.specs.declared.record.Record.{Record}
 use Rattle.edi_schema.proofs.Names.{same_name}
 use Rattle.edi_plan.specs.PlanOf.{own_name, place_named}
-use Rattle.edi_plan.specs.inner.Hints.{is_named, is_named_at, first_named, found, HasFirst, HasAll, HasTabled}
+use Rattle.edi_plan.specs.inner.Hints.{is_named, is_named_at, first_named, found, FindsByName, HasAll, HasTabled}
 use Rattle.edi_plan.specs.inner.LinkNames.{LinksDiffer}
-use Rattle.edi_plan.specs.inner.Names.{RepeatsAt, is_tabled}
+use Rattle.edi_plan.specs.inner.Names.{RepeatsNameAt, is_tabled}
 use Rattle.edi_plan.specs.inner.Targets.{HasNameAt}
 use Rattle.edi_plan.specs.declared.name_slots.NameHints.{NameHints}
 use Rattle.edi_plan.proofs.NameLemmas.{coded_kind, has_name}
@@ -71,7 +71,7 @@ module _ (list : List Record) (name : Name) where
   first_none (p ∷ ps) (suc i) past = first_none ps i (omega (arith, past))
 
 module _ (list : List Record) (hints : NameHints) (differ : LinksDiffer list) (all : HasAll list hints) where
-  pub no_repeats : (k : ℕ) → ¬ (RepeatsAt list k)
+  pub no_repeats : (k : ℕ) → ¬ (RepeatsNameAt list k)
   no_repeats k d = go (is_link d.2.kind) refl
     where
       kind : d.1.kind ≡ d.2.kind
@@ -109,12 +109,12 @@ module _ (list : List Record) (hints : NameHints) (differ : LinksDiffer list) (a
       go (Some place) e = e ∙ sym (only_named list name None place no_repeats refl (first_there list name _ place e))
       go None e = none e (place_named list name) refl
 
-pub all_found : (rise : Bool) (list : List Record) (hints : NameHints) (n : ℕ) → length list ≤ n → HasFirst n rise list hints → HasTabled rise list hints
+pub all_found : (rise : Bool) (list : List Record) (hints : NameHints) (n : ℕ) → length list ≤ n → FindsByName n rise list hints → HasTabled rise list hints
 all_found rise list hints n past first k r at other = let within = slice_get_within list k r at in first k r (omega arith) at other
 
 -- one record more is found
-pub first_more_there : (rise : Bool) (list : List Record) (hints : NameHints) (n : ℕ) → HasFirst n rise list hints
-    → ((r : Record) → slice_get list n ≡ Some r → is_tabled rise r.kind ≡ true → found list hints r.kind r.rid ≡ Some n) → HasFirst (n + 1) rise list hints
+pub first_more_there : (rise : Bool) (list : List Record) (hints : NameHints) (n : ℕ) → FindsByName n rise list hints
+    → ((r : Record) → slice_get list n ≡ Some r → is_tabled rise r.kind ≡ true → found list hints r.kind r.rid ≡ Some n) → FindsByName (n + 1) rise list hints
 first_more_there rise list hints n before one k q less at other = go (cases_lt k n)
   where
     go : (k < n) ⊎ (n ≤ k) → found list hints q.kind q.rid ≡ Some k

@@ -17,7 +17,7 @@ use Rattle.edi_schema.proofs.Names.{same_name, name_itself}
 use Rattle.edi_schema.specs.Classes.{is_name}
 use Rattle.edi_record.specs.Records.{is_link}
 use Rattle.edi_plan.specs.inner.LinkNames.{LinksDiffer}
-use Rattle.edi_plan.specs.inner.Names.{named, place_in, is_tabled, IsPut, RepeatsAt, IsFirstRepeat, IsFirstRepeatIfAny}
+use Rattle.edi_plan.specs.inner.Names.{name_lent, place_in, is_tabled, IsPlaceAdded, RepeatsNameAt, IsFirstRepeatedName, IsFirstRepeatedNameIfAny}
 use Rattle.edi_plan.specs.PlanOf.{own_name, place_named}
 use Rattle.edi_plan.specs.declared.names.RecordNameRef.{RecordNameRef}
 use Rattle.edi_plan.specs.contracts.names.RecordNameRefPartialEq.TheImpl.{ghosts as names}
@@ -53,7 +53,7 @@ kind_apart Lnk Pfe = refl
 kind_apart Lnk Fea = refl
 kind_apart Lnk Lnk = refl
 
-pub name_apart : (a b : RecordNameRef) → names.eq a b ≡ is_name (named a) (named b)
+pub name_apart : (a b : RecordNameRef) → names.eq a b ≡ is_name (name_lent a) (name_lent b)
 name_apart a b = ap (λ k. k && bytes_eq a.rid.now b.rid.now) (kind_apart a.kind b.kind)
 
 link_code : (k : Kind) → is_link k ≡ bytes_eq (kind_code k) (codes "LNK")
@@ -112,7 +112,7 @@ abbrev pub FirstTo : List Record → ℕ → Name → Option ℕ → Type 0
 FirstTo list n name found = MatchOption found ((j : ℕ) (q : Record) → j < n → slice_get list j ≡ Some q → own_name q ≡ name → ⊥) (λ k. (k < n) × IsFirstOf list name k)
 
 abbrev pub RepeatTo : List Record → ℕ → Option ℕ → Type 0
-RepeatTo list n found = MatchOption found ((j : ℕ) → j < n → ¬ (RepeatsAt list j)) (λ k. (k < n) × IsFirstRepeat list k)
+RepeatTo list n found = MatchOption found ((j : ℕ) → j < n → ¬ (RepeatsNameAt list j)) (λ k. (k < n) × IsFirstRepeatedName list k)
 
 pub pol_is : {X : Type 0} (test : X → Bool) (xs : List X) (k : ℕ) (x : X) → slice_get xs k ≡ Some x → test x ≡ true → ((j : ℕ) (y : X) → j < k → slice_get xs j ≡ Some y → test y ≡ false) → position_or_len test xs ≡ k
 pol_is test [] k x h t before = let l = slice_get_within [] k x h in absurd (omega (arith, l))
@@ -192,14 +192,14 @@ module _ (list : List Record) (n : ℕ) (r : Record) (here : slice_get list n �
   kept_first name None h other = before_more name h (λ is. other is refl)
   kept_first name (Some k) h other = (omega (arith, h.0), h.1)
 
-  repeated : (k : ℕ) → FirstTo list n (own_name r) (Some k) → RepeatsAt list n
+  repeated : (k : ℕ) → FirstTo list n (own_name r) (Some k) → RepeatsNameAt list n
   repeated k h = (k, h.1.there, r, h.0, h.1.here, here, h.1.is)
 
-  fresh : FirstTo list n (own_name r) None → ¬ (RepeatsAt list n)
+  fresh : FirstTo list n (own_name r) None → ¬ (RepeatsNameAt list n)
   fresh none d = none d.0 d.1 d.3 d.4 (d.6 ∙ ap own_name (one_there d.2 d.5))
 
   -- a place other than this one is that of an earlier record of the name
-  pub repeats_here : (found : Option ℕ) → FirstTo list n (own_name r) found → (first : ℕ) → first ≡ unwrap_or found n → (not (nat_eq first n) ≡ true → RepeatsAt list n) × (RepeatsAt list n → not (nat_eq first n) ≡ true)
+  pub repeats_here : (found : Option ℕ) → FirstTo list n (own_name r) found → (first : ℕ) → first ≡ unwrap_or found n → (not (nat_eq first n) ≡ true → RepeatsNameAt list n) × (RepeatsNameAt list n → not (nat_eq first n) ≡ true)
   repeats_here None none first is = let e = eq-eqb first n is in (λ h. absurd (true≢false (sym h ∙ ap not e)), λ d. absurd (fresh none d))
   repeats_here (Some k) there first is = (λ h. repeated k there, λ d. go (nat_eq first n) refl)
     where
@@ -207,12 +207,12 @@ module _ (list : List Record) (n : ℕ) (r : Record) (here : slice_get list n �
       go true t = let e = eqb-true first n t in absurd (omega (arith, there.0, is, e))
       go false t = refl
 
-  none_more : ((j : ℕ) → j < n → ¬ (RepeatsAt list j)) → ¬ (RepeatsAt list n) → (j : ℕ) → j < n + 1 → ¬ (RepeatsAt list j)
+  none_more : ((j : ℕ) → j < n → ¬ (RepeatsNameAt list j)) → ¬ (RepeatsNameAt list n) → (j : ℕ) → j < n + 1 → ¬ (RepeatsNameAt list j)
   none_more none other j less d = go (cases_lt j n)
     where
       go : (j < n) ⊎ (n ≤ j) → ⊥
       go (inl below) = none j below d
-      go (inr past) = let e : j ≡ n = omega arith in other (subst (RepeatsAt list) e d)
+      go (inr past) = let e : j ≡ n = omega arith in other (subst (RepeatsNameAt list) e d)
 
   pub repeat_more : (found repeat : Option ℕ) → FirstTo list n (own_name r) found → is_some found ≡ true → RepeatTo list n repeat → RepeatTo list (n + 1) (option_or repeat (Some n))
   repeat_more None repeat first some h = cc
@@ -228,14 +228,14 @@ module _ (list : List Record) (n : ℕ) (r : Record) (here : slice_get list n �
   pub repeat_apart : LinksDiffer list → is_link r.kind ≡ true → (repeat : Option ℕ) → RepeatTo list n repeat → RepeatTo list (n + 1) repeat
   repeat_apart differ link None h = none_more h apart
     where
-      apart : ¬ (RepeatsAt list n)
+      apart : ¬ (RepeatsNameAt list n)
       apart d =
           let is : is_link d.2.kind ≡ true = subst (λ (x : Record). is_link x.kind ≡ true) (sym (one_there d.2 d.5)) link in
           differ d.0 n d.1 d.2 d.3 d.4 d.5 (coded_link d.1.kind d.2.kind (ap (λ (m : Name). m.rty) d.6) ∙ is) is (ap (λ (m : Name). m.rid) d.6)
   repeat_apart differ link (Some m) h = (omega (arith, h.0), h.1)
 
-  pub first_apart : (q : RecordNameRef) → is_link q.kind ≡ false → is_link r.kind ≡ true → (found : Option ℕ) → FirstTo list n (named q) found → FirstTo list (n + 1) (named q) found
-  first_apart q other link found h = kept_first (named q) found h (λ is none. let e : is_link r.kind ≡ is_link q.kind = coded_link r.kind q.kind (ap (λ (m : Name). m.rty) is) in cc)
+  pub first_apart : (q : RecordNameRef) → is_link q.kind ≡ false → is_link r.kind ≡ true → (found : Option ℕ) → FirstTo list n (name_lent q) found → FirstTo list (n + 1) (name_lent q) found
+  first_apart q other link found h = kept_first (name_lent q) found h (λ is none. let e : is_link r.kind ≡ is_link q.kind = coded_link r.kind q.kind (ap (λ (m : Name). m.rty) is) in cc)
 
 -- a name has another place than a new one exactly if an earlier record has the name
 pub was_there : (list : List Record) (n : ℕ) (name : Name) (found : Option ℕ) → FirstTo list n name found → unwrap_or found n ≢ n → is_some found ≡ true
@@ -246,7 +246,7 @@ pub was_new : (list : List Record) (n : ℕ) (name : Name) (found : Option ℕ) 
 was_new list n name None h same = refl
 was_new list n name (Some k) h same = absurd (omega (arith, h.0, same))
 
-pub repeat_all : (list : List Record) (n : ℕ) (found : Option ℕ) → length list ≤ n → RepeatTo list n found → IsFirstRepeatIfAny list found
+pub repeat_all : (list : List Record) (n : ℕ) (found : Option ℕ) → length list ≤ n → RepeatTo list n found → IsFirstRepeatedNameIfAny list found
 repeat_all list n None past h = λ j d. let l = slice_get_within list j d.2 d.5 in h j (omega (arith, l)) d
 repeat_all list n (Some k) past h = h.1
 
@@ -259,8 +259,8 @@ first_all list n name (Some k) past h = (slice_get_within list k h.1.there h.1.h
 pub by_eq : (q : RecordNameRef) (table : List (RecordNameRef × ℕ)) → lookup (names.eq q) table ≡ place_in table q
 by_eq q table i = lookup (λ (t : RecordNameRef). name_apart q t i) table
 
-same_place : (q t : RecordNameRef) → named q ≡ named t → (table : List (RecordNameRef × ℕ)) → place_in table q ≡ place_in table t
-same_place q t e table i = lookup (λ (b : RecordNameRef). is_name (e i) (named b)) table
+same_place : (q t : RecordNameRef) → name_lent q ≡ name_lent t → (table : List (RecordNameRef × ℕ)) → place_in table q ≡ place_in table t
+same_place q t e table i = lookup (λ (b : RecordNameRef). is_name (e i) (name_lent b)) table
 
 module _ (old new : List (RecordNameRef × ℕ)) (name : RecordNameRef) (place : ℕ) where
   or_none : (o : Option ℕ) → o ≡ option_or o None
@@ -272,42 +272,42 @@ module _ (old new : List (RecordNameRef × ℕ)) (name : RecordNameRef) (place :
   or_some (Some k) = refl
 
   -- writing the place that a name has, or else this one, puts this one
-  pub put_or : (first : ℕ) → first ≡ unwrap_or (lookup (names.eq name) old) place → ((q : RecordNameRef) → lookup (names.eq q) new ≡ cond (names.eq name q) (Some first) (lookup (names.eq q) old)) → IsPut old name place new
+  pub put_or : (first : ℕ) → first ≡ unwrap_or (lookup (names.eq name) old) place → ((q : RecordNameRef) → lookup (names.eq q) new ≡ cond (names.eq name q) (Some first) (lookup (names.eq q) old)) → IsPlaceAdded old name place new
   put_or first is updates other =
       sym (by_eq other new) ∙ (updates other ∙ (ap (λ b. cond b (Some first) (lookup (names.eq other) old)) (name_apart name other)
-      ∙ (ap (cond (is_name (named name) (named other)) (Some first)) (by_eq other old) ∙ go (is_name (named name) (named other)) refl)))
+      ∙ (ap (cond (is_name (name_lent name) (name_lent other)) (Some first)) (by_eq other old) ∙ go (is_name (name_lent name) (name_lent other)) refl)))
     where
-      go : (b : Bool) → is_name (named name) (named other) ≡ b → cond b (Some first) (place_in old other) ≡ option_or (place_in old other) (if b then Some place else None)
+      go : (b : Bool) → is_name (name_lent name) (name_lent other) ≡ b → cond b (Some first) (place_in old other) ≡ option_or (place_in old other) (if b then Some place else None)
       go false t = or_none (place_in old other)
       go true t =
-          let alike : lookup (names.eq name) old ≡ place_in old other = by_eq name old ∙ same_place name other (same_name (named name) (named other) t) old in
+          let alike : lookup (names.eq name) old ≡ place_in old other = by_eq name old ∙ same_place name other (same_name (name_lent name) (name_lent other) t) old in
           ap Some (is ∙ ap (λ o. unwrap_or o place) alike) ∙ or_some (place_in old other)
 
 module _ (list : List Record) (n : ℕ) (r : Record) (here : slice_get list n ≡ Some r) (rise : Bool) (in_table : is_tabled rise r.kind ≡ true)
-    (name : RecordNameRef) (e : named name ≡ own_name r) (old new : List (RecordNameRef × ℕ))
-    (put : IsPut old name n new) (first : (q : RecordNameRef) → is_tabled rise q.kind ≡ true → FirstTo list n (named q) (place_in old q)) where
+    (name : RecordNameRef) (e : name_lent name ≡ own_name r) (old new : List (RecordNameRef × ℕ))
+    (put : IsPlaceAdded old name n new) (first : (q : RecordNameRef) → is_tabled rise q.kind ≡ true → FirstTo list n (name_lent q) (place_in old q)) where
   pub first_own : FirstTo list n (own_name r) (place_in old name)
   first_own =
       let tabled = ap (λ b. not (rise && b)) (coded_link name.kind r.kind (ap (λ (m : Name). m.rty) e)) ∙ in_table in
       subst (λ m. FirstTo list n m (place_in old name)) e (first name tabled)
 
-  pub first_put : (q : RecordNameRef) → is_tabled rise q.kind ≡ true → FirstTo list (n + 1) (named q) (place_in new q)
-  first_put q tabled = subst (FirstTo list (n + 1) (named q)) (sym (put q)) (go (is_name (named name) (named q)) refl (place_in old q) (first q tabled))
+  pub first_put : (q : RecordNameRef) → is_tabled rise q.kind ≡ true → FirstTo list (n + 1) (name_lent q) (place_in new q)
+  first_put q tabled = subst (FirstTo list (n + 1) (name_lent q)) (sym (put q)) (go (is_name (name_lent name) (name_lent q)) refl (place_in old q) (first q tabled))
     where
-      go : (b : Bool) → is_name (named name) (named q) ≡ b → (found : Option ℕ) → FirstTo list n (named q) found → FirstTo list (n + 1) (named q) (option_or found (if b then Some n else None))
-      go b t (Some k) h = kept_first list n r here (named q) (Some k) h (λ is none. cc)
-      go true t None h = put_first list n r here (named q) (sym e ∙ same_name (named name) (named q) t) h
-      go false t None h = kept_first list n r here (named q) None h (λ is none. let no : true ≡ false = sym (subst (λ m. is_name (named name) m ≡ true) (e ∙ is) (name_itself (named name))) ∙ t in cc)
+      go : (b : Bool) → is_name (name_lent name) (name_lent q) ≡ b → (found : Option ℕ) → FirstTo list n (name_lent q) found → FirstTo list (n + 1) (name_lent q) (option_or found (if b then Some n else None))
+      go b t (Some k) h = kept_first list n r here (name_lent q) (Some k) h (λ is none. cc)
+      go true t None h = put_first list n r here (name_lent q) (sym e ∙ same_name (name_lent name) (name_lent q) t) h
+      go false t None h = kept_first list n r here (name_lent q) None h (λ is none. let no : true ≡ false = sym (subst (λ m. is_name (name_lent name) m ≡ true) (e ∙ is) (name_itself (name_lent name))) ∙ t in cc)
 
-pub names_of : (list : List Record) (n : ℕ) → length list ≤ n → (rise : Bool) (table : List (RecordNameRef × ℕ)) → ((q : RecordNameRef) → is_tabled rise q.kind ≡ true → FirstTo list n (named q) (place_in table q))
-    → (name : RecordNameRef) → is_link name.kind ≡ false → place_in table name ≡ place_named list (named name)
-names_of list n past rise table first name no_link = named_from list (named name) (place_in table name) (first_all list n (named name) (place_in table name) past (first name (looked_up rise name.kind no_link)))
+pub names_of : (list : List Record) (n : ℕ) → length list ≤ n → (rise : Bool) (table : List (RecordNameRef × ℕ)) → ((q : RecordNameRef) → is_tabled rise q.kind ≡ true → FirstTo list n (name_lent q) (place_in table q))
+    → (name : RecordNameRef) → is_link name.kind ≡ false → place_in table name ≡ place_named list (name_lent name)
+names_of list n past rise table first name no_link = named_from list (name_lent name) (place_in table name) (first_all list n (name_lent name) (place_in table name) past (first name (looked_up rise name.kind no_link)))
 
-pub no_names : (list : List Record) (q : RecordNameRef) → FirstTo list 0 (named q) None
+pub no_names : (list : List Record) (q : RecordNameRef) → FirstTo list 0 (name_lent q) None
 no_names list q = λ j r less. absurd (omega arith)
 
-pub found_at : (list : List Record) (es : List (RecordNameRef × ℕ)) (name : RecordNameRef) → lookup (λ t. is_name (named name) (named t)) es ≡ place_named list (named name)
-    → (target : Name) → named name ≡ target → (o : Option ℕ) → o ≡ lookup (names.eq name) es → place_named list target ≡ o
+pub found_at : (list : List Record) (es : List (RecordNameRef × ℕ)) (name : RecordNameRef) → lookup (λ t. is_name (name_lent name) (name_lent t)) es ≡ place_named list (name_lent name)
+    → (target : Name) → name_lent name ≡ target → (o : Option ℕ) → o ≡ lookup (names.eq name) es → place_named list target ≡ o
 found_at list es name are target is o e =
     let known = (λ i. lookup (λ (t : RecordNameRef). name_apart name t i) es) ∙ are in
     sym (e ∙ (known ∙ ap (place_named list) is))

@@ -13,7 +13,7 @@ use Rattle.edi_plan.specs.inner.Done.{JoinsIn}
 use Rattle.edi_plan.specs.Joined.{beside}
 use Rattle.edi_plan.specs.Plans.{first_of}
 use Rattle.edi_plan.specs.ReferenceRules.{HasUnknownClass, IsRecordAt, IsLinkOfRole, JoinsArcTo, JoinsWrong, LacksAttributeClass, LeavesSubset, Names, NamesNothing}
-use Rattle.edi_plan.specs.inner.Resolving.{LacksClass, lacks_class, is_elsewhere, leaves, first_subset, role_of_link}
+use Rattle.edi_plan.specs.inner.Resolving.{HasNoAttributeClass, lacks_class, is_elsewhere, leaves, first_subset, role_of_link}
 use Rattle.edi_plan.specs.inner.SideTable.{link_join}
 use Rattle.edi_plan.specs.inner.Targets.{IsTargetIfAny}
 use Rattle.edi_plan.specs.declared.sides.Join.{Join}
@@ -48,10 +48,10 @@ module _ (s : Classes) (list : List Record) (place : ℕ) (r : Record) (here : s
   from_302 d = ap is_none (ap (λ (q : Record). place_of s q.scp) (sym (one_record d.0 d.1)) ∙ d.2)
 
   pub to_303 : list_any (lacks_class s) r.attributes ≡ true → LacksAttributeClass s list (suc place)
-  to_303 h = (r, is_at, true_any (LacksClass s) (lacks_class s) (true_lacks s) r.attributes h)
+  to_303 h = (r, is_at, true_any (HasNoAttributeClass s) (lacks_class s) (true_lacks s) r.attributes h)
 
   pub from_303 : LacksAttributeClass s list (suc place) → list_any (lacks_class s) r.attributes ≡ true
-  from_303 d = any_true (LacksClass s) (lacks_class s) (lacks_true s) r.attributes (subst (λ (q : Record). Any (LacksClass s) q.attributes) (one_record d.0 d.1) d.2)
+  from_303 d = any_true (HasNoAttributeClass s) (lacks_class s) (lacks_true s) r.attributes (subst (λ (q : Record). Any (HasNoAttributeClass s) q.attributes) (one_record d.0 d.1) d.2)
 
   pub to_304 : leaves (first_subset list) r.ends ≡ true → LeavesSubset s list (suc place)
   to_304 h = go (flat_map (λ q. q.ends) list) refl h

@@ -8,7 +8,7 @@ use Rattle.std.proofs.Math.Seq.{drop-cons}
 use Rattle.edi_record.specs.declared.record.End.{End}
 use Rattle.edi_record.specs.declared.record.Record.{Record}
 use Rattle.edi_schema.specs.Classes.{Classes}
-use Rattle.edi_plan.specs.inner.Names.{RepeatsAt, IsFirstRepeatIfAny}
+use Rattle.edi_plan.specs.inner.Names.{RepeatsNameAt, IsFirstRepeatedNameIfAny}
 use Rattle.edi_plan.specs.PlanOf.{StatesPlanEnd, StatesPlanRecord}
 use Rattle.edi_plan.specs.inner.Resolving.{AreGiven, IsPlanned}
 use Rattle.edi_plan.specs.inner.SideTable.{HaveEntries}
@@ -105,17 +105,17 @@ one_left_less list rest new place is next = next ∙ (ap (drop 1) is ∙ drop-dr
 
 -- whether the next record repeats a name
 
-pub fresh_at : (list : List Record) (place : ℕ) (repeat : Option ℕ) → IsFirstRepeatIfAny list repeat → ((k : ℕ) → repeat ≡ Some k → place ≤ k) → (repeat ≡ Some place → ⊥) → ¬ (RepeatsAt list place)
+pub fresh_at : (list : List Record) (place : ℕ) (repeat : Option ℕ) → IsFirstRepeatedNameIfAny list repeat → ((k : ℕ) → repeat ≡ Some k → place ≤ k) → (repeat ≡ Some place → ⊥) → ¬ (RepeatsNameAt list place)
 fresh_at list place None none ahead other = none place
 fresh_at list place (Some k) first ahead other = go (cases_order place k)
   where
-    go : (place ≡ k) ⊎ ((place < k) ⊎ (k < place)) → ¬ (RepeatsAt list place)
+    go : (place ≡ k) ⊎ ((place < k) ⊎ (k < place)) → ¬ (RepeatsNameAt list place)
     go (inl same) d = other (ap Some (sym same))
     go (inr (inl less)) d = first.none_before place less d
     go (inr (inr more)) d = let le = ahead k refl in absurd (omega (arith, le, more))
 
-pub repeats_here : (list : List Record) (place : ℕ) (repeat : Option ℕ) → IsFirstRepeatIfAny list repeat → repeat ≡ Some place → RepeatsAt list place
-repeats_here list place repeat first e = (subst (IsFirstRepeatIfAny list) e first).repeats
+pub repeats_here : (list : List Record) (place : ℕ) (repeat : Option ℕ) → IsFirstRepeatedNameIfAny list repeat → repeat ≡ Some place → RepeatsNameAt list place
+repeats_here list place repeat first e = (subst (IsFirstRepeatedNameIfAny list) e first).repeats
 
 pub ahead_more : (place : ℕ) (repeat : Option ℕ) → ((k : ℕ) → repeat ≡ Some k → place ≤ k) → (repeat ≡ Some place → ⊥) → (k : ℕ) → repeat ≡ Some k → place + 1 ≤ k
 ahead_more place repeat ahead other k e = go (cases_order place k)

@@ -7,10 +7,10 @@ use Rattle.edi_plan.specs.Plans.{blank}
 use Rattle.edi_plan.specs.declared.planned.PlanHead.{PlanHead}
 use Rattle.edi_plan.specs.declared.record.PlanAttribute.{PlanAttribute}
 use Rattle.edi_plan.specs.declared.record.PlanEnd.{PlanEnd}
-use Rattle.edi_plan.specs.inner.RecordLists.{record_of, records_of}
+use Rattle.edi_plan.specs.inner.RecordLists.{plan_record_of, plan_records_of}
 
 pub record_there : (es : List (AnyRecord PlanHead PlanAttribute PlanEnd)) (k : ℕ) (e : AnyRecord PlanHead PlanAttribute PlanEnd)
-    → slice_get es k ≡ Some e → get_or (records_of es) k blank ≡ record_of e
+    → slice_get es k ≡ Some e → get_or (plan_records_of es) k blank ≡ plan_record_of e
 record_there es k e here =
-    get_or_from_slice_get (records_of es) k (record_of e) blank
-    (slice_get-map record_of es k ∙ ap (option_map record_of) here)
+    get_or_from_slice_get (plan_records_of es) k (plan_record_of e) blank
+    (slice_get-map plan_record_of es k ∙ ap (option_map plan_record_of) here)

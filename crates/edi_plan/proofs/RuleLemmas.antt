@@ -21,7 +21,7 @@ use Rattle.edi_plan.specs.Joined.{beside}
 use Rattle.edi_record.specs.Records.{is_link}
 use Rattle.edi_plan.specs.Plans.{same_kind, kind_rank}
 use Rattle.edi_plan.specs.ReferenceRules.{Names, IsLinkOfRole}
-use Rattle.edi_plan.specs.inner.Resolving.{AreGiven, Gives, LacksClass, lacks_class, is_elsewhere, role_of_link}
+use Rattle.edi_plan.specs.inner.Resolving.{AreGiven, GivesEnd, HasNoAttributeClass, lacks_class, is_elsewhere, role_of_link}
 use Rattle.edi_plan.specs.inner.SideTable.{join_of_two, join_in, link_join}
 use Rattle.edi_plan.specs.inner.Targets.{Leads, IsTargetIfAny}
 use Rattle.edi_plan.specs.declared.record.PlanEnd.{PlanEnd}
@@ -125,10 +125,10 @@ or_true a b f g (inr q) = ap (λ c. a || c) (g q) ∙ true_or a
     true_or true = refl
     true_or false = refl
 
-pub lacks_true : (s : Classes) (a : Attribute) → LacksClass s a → lacks_class s a ≡ true
+pub lacks_true : (s : Classes) (a : Attribute) → HasNoAttributeClass s a → lacks_class s a ≡ true
 lacks_true s a h = or_true (not (bytes_eq a.atp.rty (codes "ATT"))) (is_none (place_of s a.atp)) (differs a.atp.rty (codes "ATT")) (λ e. ap is_none e) h
 
-pub true_lacks : (s : Classes) (a : Attribute) → lacks_class s a ≡ true → LacksClass s a
+pub true_lacks : (s : Classes) (a : Attribute) → lacks_class s a ≡ true → HasNoAttributeClass s a
 true_lacks s a h = either (not (bytes_eq a.atp.rty (codes "ATT"))) (is_none (place_of s a.atp)) (differ a.atp.rty (codes "ATT")) (none_is (place_of s a.atp)) h
 
 pub elsewhere_true : (e d : End) → ((d.lot ≢ e.lot) ⊎ (d.subset ≢ e.subset)) → is_elsewhere (record { lot = e.lot; subset = e.subset }) d ≡ true
@@ -302,7 +302,7 @@ turned (inr q) = inl q
 
 -- ---- ends with their targets
 
-pub given_step : (ts : List (Option Target)) (k : ℕ) (d : Option Target) (t : Target) (es rest : List End) (e : End) (p : PlanEnd) (more : List PlanEnd) → k < length ts → get_or ts k d ≡ Some t → es ≡ e ∷ rest → Gives (Some t) e p
+pub given_step : (ts : List (Option Target)) (k : ℕ) (d : Option Target) (t : Target) (es rest : List End) (e : End) (p : PlanEnd) (more : List PlanEnd) → k < length ts → get_or ts k d ≡ Some t → es ≡ e ∷ rest → GivesEnd (Some t) e p
     → AreGiven (drop (k + 1) ts) rest more → AreGiven (drop k ts) es (p ∷ more)
 given_step ts k d t es rest e p more less is next gives given =
     let front : drop k ts ≡ Some t ∷ drop (k + 1) ts = drop-cons ts k d less ∙ (λ i. is i ∷ drop (sym (Rattle.std.proofs.Common.add-one k) i) ts) in

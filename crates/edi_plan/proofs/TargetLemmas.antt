@@ -11,7 +11,7 @@ use Rattle.edi_record.specs.declared.record.End.{End}
 use Rattle.edi_record.specs.declared.record.Kind.{Kind}
 use Rattle.edi_record.specs.declared.record.Kind.TheVariants.{Pno, Par, Pfe, Fea, Lnk}
 use Rattle.edi_record.specs.declared.record.Record.{Record}
-use Rattle.edi_plan.specs.inner.Names.{IsFirstRepeatIfAny}
+use Rattle.edi_plan.specs.inner.Names.{IsFirstRepeatedNameIfAny}
 use Rattle.edi_plan.specs.PlanOf.{place_named}
 use Rattle.edi_record.specs.Records.{is_link}
 use Rattle.edi_plan.specs.inner.Targets.{target_kind, HasNameAt, Leads, IsTargetIfAny}
@@ -45,7 +45,7 @@ uncoded Fea h = refl
 uncoded Lnk h = cc
 
 -- where no record has the name of an earlier one, a record of a name is the first
-pub only_named : (list : List Record) (name : Name) (repeat : Option ℕ) (k : ℕ) → IsFirstRepeatIfAny list repeat → is_some repeat ≡ false → HasNameAt list name k → place_named list name ≡ Some k
+pub only_named : (list : List Record) (name : Name) (repeat : Option ℕ) (k : ℕ) → IsFirstRepeatedNameIfAny list repeat → is_some repeat ≡ false → HasNameAt list name k → place_named list name ≡ Some k
 only_named list name (Some n) k first some h = cc
 only_named list name None k none some h =
     first_named list name k (record { there = h.there; here = h.here; is = h.is; none_before = λ j q less at is. none k (j, q, h.there, less, at, h.here, is ∙ sym h.is) })

@@ -5,7 +5,7 @@ ghost use Rattle.std.specs.List.{list_any};
 ghost use Rattle.edi_plan.specs.EarlierLinks.{IsLeastIfAny};
 ghost use Rattle.edi_plan.specs.inner.EarlierLinks.{ends_at as ends_at_arc, IsOfSide, IsOfSideAt};
 ghost use Rattle.edi_plan.specs.inner.Findings.{is_arc_at as is_arc_there};
-ghost use Rattle.edi_plan.specs.inner.RecordLists.{record_of, records_of};
+ghost use Rattle.edi_plan.specs.inner.RecordLists.{plan_record_of, plan_records_of};
 ghost use Rattle.edi_record.specs.AnyRecords.{record_lent};
 
 use crate::planned::{PlanHead, RecordList};
@@ -54,14 +54,14 @@ fn is_of_side(
     role: Role,
     targets: &[Option<Target>],
 ) -> bool
-    ensures { IsTrue result ↔ IsOfSide role targets.now (record_of (record_lent «record».now)) }
+    ensures { IsTrue result ↔ IsOfSide role targets.now (plan_record_of (record_lent «record».now)) }
 {
     record.head.kind == Kind::Lnk && record.head.role == role && shares_arc(record.ends, targets)
 }
 
 /// The place of the first such link, from 0.
 fn first_of_side(list: &RecordList, role: Role, targets: &[Option<Target>]) -> Option<u64>
-    ensures { IsLeastIfAny (IsOfSideAt (records_of list.now) role targets.now) result }
+    ensures { IsLeastIfAny (IsOfSideAt (plan_records_of list.now) role targets.now) result }
 {
     for place in 0..list.len() {
         if is_of_side(&list.record(place), role, targets) {
@@ -79,7 +79,7 @@ pub(crate) fn earlier_link(
     role: Role,
     targets: &[Option<Target>],
 ) -> Option<u64>
-    ensures link { rule ≡ 307 → IsLeastIfAny (IsOfSideAt (records_of list.now) role targets.now) result }
+    ensures link { rule ≡ 307 → IsLeastIfAny (IsOfSideAt (plan_records_of list.now) role targets.now) result }
     ensures others { rule ≢ 307 → result ≡ None }
 {
     match rule {

@@ -6,7 +6,7 @@ ghost use Rattle.edi_line.specs.Bytes.{most_records};
 ghost use Rattle.edi_record.specs.Records.{is_link};
 ghost use Rattle.edi_plan.specs.inner.Hints.{three_bytes as number_at, with_bits as bits_added, last_bytes as number_in, near_number, far_number, start_of, kind_slot as slot_of_kind, slots_at, first_named as first_in, found, HasAll, HasTabled};
 ghost use Rattle.edi_plan.specs.inner.LinkNames.{LinksDiffer};
-ghost use Rattle.edi_plan.specs.inner.Names.{named};
+ghost use Rattle.edi_plan.specs.inner.Names.{name_lent};
 ghost use Rattle.edi_plan.specs.PlanOf.{place_named};
 
 use crate::name_slots::{FREE, NameHints, WINDOW};
@@ -80,7 +80,7 @@ fn kind_slot(kind: Kind) -> u64
 
 /// The first of these places at which a record of this name stands.
 fn first_named(records: &SheetRecords, places: &[u32], name: &RecordNameRef<'_>) -> Option<u32>
-    ensures { result ≡ first_in records.now (named name.now) places.now }
+    ensures { result ≡ first_in records.now (name_lent name.now) places.now }
 {
     for place in places {
         if has_name(records, *place, name) {
@@ -219,7 +219,7 @@ impl NameHints {
         requires no_link { is_link name.now.kind ≡ false }
         requires links { LinksDiffer records.now }
         requires all { HasAll records.now self.now }
-        ensures { result ≡ place_named records.now (named name.now) }
+        ensures { result ≡ place_named records.now (name_lent name.now) }
     {
         self.find(records, name)
     }

@@ -3,7 +3,7 @@
 ghost use Rattle.std.specs.Prelude.{◌≡◌, ◌≤◌, List, length, IfOk};
 ghost use Rattle.edi_line.specs.Bytes.{most_records};
 ghost use Rattle.edi_record.specs.declared.record.Record.{Record as Records};
-ghost use Rattle.edi_plan.specs.inner.Names.{IsFirstRepeatIfAny};
+ghost use Rattle.edi_plan.specs.inner.Names.{IsFirstRepeatedNameIfAny};
 ghost use Rattle.edi_plan.specs.inner.Found.{FindsAll};
 
 use crate::name_slots::NameHints;
@@ -44,7 +44,7 @@ impl<'a> NamePlaces<'a> {
 
     /// The place of the first record with the name of an earlier one, if there is one.
     pub(crate) fn repeat(&self) -> Option<usize>
-        ensures { (list : List Records) → FindsAll list self.now → IsFirstRepeatIfAny list result }
+        ensures { (list : List Records) → FindsAll list self.now → IsFirstRepeatedNameIfAny list result }
     {
         match self {
             NamePlaces::Hinted(_) => None,

@@ -7,7 +7,7 @@ ghost use Rattle.edi_line.specs.Bytes.{most_records};
 ghost use Rattle.edi_hash.specs.Keys.{keyed_by};
 ghost use Rattle.edi_record.specs.Shapes.{stated_at};
 ghost use Rattle.edi_plan.specs.PlanOf.{own_name};
-ghost use Rattle.edi_plan.specs.inner.Names.{named, place_in, is_tabled as tabled_test, tabled, IsPut, AreNamesOf, IsFirstRepeatIfAny};
+ghost use Rattle.edi_plan.specs.inner.Names.{name_lent, place_in, is_tabled as tabled_test, tabled, IsPlaceAdded, AreFirstPlaces, IsFirstRepeatedNameIfAny};
 ghost use Rattle.edi_plan.specs.inner.Targets.{HasNameAt};
 ghost use Rattle.edi_plan.specs.inner.Hints.{is_named_at};
 ghost use Rattle.edi_plan.specs.inner.LinkNames.{with_digit, end_number, length_and_end, link_number, LinksDiffer};
@@ -59,7 +59,7 @@ impl Drop for Names<'_> {
 /// The name of the record at a place, from 0.
 pub(crate) fn name_at(records: &SheetRecords, place: usize) -> RecordNameRef<'_>
     requires { place < length records.now }
-    ensures { named result ≡ own_name (stated_at records.now place) }
+    ensures { name_lent result ≡ own_name (stated_at records.now place) }
 {
     RecordNameRef {
         kind: records.kind(place),
@@ -69,8 +69,8 @@ pub(crate) fn name_at(records: &SheetRecords, place: usize) -> RecordNameRef<'_>
 
 /// Whether the record at a place has this name.
 pub(crate) fn has_name(records: &SheetRecords, place: u32, name: &RecordNameRef<'_>) -> bool
-    ensures has { result ≡ true → HasNameAt records.now (named name.now) place }
-    ensures is { result ≡ is_named_at records.now (named name.now) place }
+    ensures has { result ≡ true → HasNameAt records.now (name_lent name.now) place }
+    ensures is { result ≡ is_named_at records.now (name_lent name.now) place }
 {
     let place = place as usize;
     place < records.len() && name_at(records, place) == *name
@@ -190,7 +190,7 @@ pub(crate) fn place_or<'a>(
     place: u32,
 ) -> Result<u32, AllocError>
     ensures first { IfOk result (λ first. first ≡ unwrap_or (place_in places.old.entries name.entry) place) }
-    ensures put { OnOk result (IsPut places.old.entries name.entry place places.new.entries) }
+    ensures put { OnOk result (IsPlaceAdded places.old.entries name.entry place places.new.entries) }
 {
     Ok(*places.entry(name)?.or_insert(place))
 }
@@ -199,8 +199,8 @@ impl<'a> Names<'a> {
     /// The names of records, by their places from 0.
     pub(crate) fn among(alloc: Global, records: &'a SheetRecords) -> Result<Names<'a>, AllocError>
         requires { length records.now ≤ most_records }
-        ensures names { IfOk result (AreNamesOf records.now) }
-        ensures repeat { IfOk result (λ names. IsFirstRepeatIfAny records.now names.repeat) }
+        ensures names { IfOk result (AreFirstPlaces records.now) }
+        ensures repeat { IfOk result (λ names. IsFirstRepeatedNameIfAny records.now names.repeat) }
     {
         let links_rise = links_rise(records);
         let hash = hash_of(links_rise, records);

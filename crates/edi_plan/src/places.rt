@@ -3,9 +3,9 @@
 ghost use Rattle.std.specs.Prelude.{◌≡◌, ◌<◌, ◌≤◌, ◌∷◌, ◌++◌, [], length, slice_index_or, if◌then◌else◌, IfOk, OnOk};
 ghost use Rattle.edi_line.specs.Bytes.{most_records};
 ghost use Rattle.edi_record.specs.declared.record.Kind.{Kind as Kinds};
-ghost use Rattle.edi_plan.specs.inner.Places.{listed, ArePlacesOf};
+ghost use Rattle.edi_plan.specs.inner.Places.{places_listed, ArePlacesOf};
 ghost use Rattle.edi_plan.specs.Plans.{same_kind};
-ghost use Rattle.edi_plan.specs.inner.RecordLists.{records_of};
+ghost use Rattle.edi_plan.specs.inner.RecordLists.{plan_records_of};
 
 use crate::planned::RecordList;
 use edi_record::Kind;
@@ -37,7 +37,7 @@ impl Drop for Places {
 
 impl Places {
     fn none(alloc: Global) -> Places
-        ensures places { (kind : Kinds) → listed result kind ≡ [] }
+        ensures places { (kind : Kinds) → places_listed result kind ≡ [] }
         ensures kinds { result.kinds.items ≡ [] }
     {
         Places {
@@ -52,8 +52,8 @@ impl Places {
 
     /// Adds the place of a record of a type.
     fn add(&mut self, kind: Kind, place: u32) -> Result<(), AllocError>
-        ensures places { OnOk result ((other : Kinds) → listed self.new other
-            ≡ (if same_kind other kind then listed self.old other ++ place ∷ [] else listed self.old other)) }
+        ensures places { OnOk result ((other : Kinds) → places_listed self.new other
+            ≡ (if same_kind other kind then places_listed self.old other ++ place ∷ [] else places_listed self.old other)) }
         ensures kinds { OnOk result (self.new.kinds.items ≡ self.old.kinds.items ++ kind ∷ []) }
     {
         self.kinds.push(kind)?;
@@ -70,7 +70,7 @@ impl Places {
     /// The types of these records, and their places, from 0.
     pub(crate) fn among(alloc: Global, list: &RecordList) -> Result<Places, AllocError>
         requires { length list.now ≤ most_records }
-        ensures { IfOk result (ArePlacesOf (records_of list.now)) }
+        ensures { IfOk result (ArePlacesOf (plan_records_of list.now)) }
     {
         let mut places = Places::none(alloc);
         for place in 0..list.len() {
@@ -89,7 +89,7 @@ impl Places {
 
     /// The places of the records of a type.
     pub(crate) fn of(&self, kind: Kind) -> &[u32]
-        ensures { result.now ≡ listed self.now kind }
+        ensures { result.now ≡ places_listed self.now kind }
     {
         match kind {
             Kind::Pno => &self.nodes,

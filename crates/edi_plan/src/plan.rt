@@ -36,14 +36,14 @@ impl Model for Plan {
     ghost use Rattle.edi_plan.specs.Plans.{PlanData};
     ghost use Rattle.edi_plan.specs.inner.Places.{ArePlacesOf};
     ghost use Rattle.edi_plan.specs.inner.SideTable.{HoldsSides};
-    ghost use Rattle.edi_plan.specs.inner.RecordLists.{records_of};
+    ghost use Rattle.edi_plan.specs.inner.RecordLists.{plan_records_of};
 
     ghost Value = { PlanData };
 
-    ghost view = { λ p. record { cse = p.cse; list = records_of p.list } };
+    ghost view = { λ p. record { cse = p.cse; list = plan_records_of p.list } };
 
-    ghost invariant = { λ p. HoldsSides (record { cse = p.cse; list = records_of p.list }) p.sides
-        × ArePlacesOf (records_of p.list) p.places };
+    ghost invariant = { λ p. HoldsSides (record { cse = p.cse; list = plan_records_of p.list }) p.sides
+        × ArePlacesOf (plan_records_of p.list) p.places };
 }
 
 impl Plan {

@@ -1,7 +1,7 @@
 //! The records of a plan, and one on its way there.
 
 ghost use Rattle.std.specs.Prelude.{◌≡◌, ◌∷◌, ◌++◌, [], OnOk};
-ghost use Rattle.edi_plan.specs.inner.RecordLists.{records_of};
+ghost use Rattle.edi_plan.specs.inner.RecordLists.{plan_records_of};
 
 use crate::record::{PlanAttribute, PlanEnd};
 use crate::spare_parts::SpareParts;
@@ -52,7 +52,7 @@ impl<'a> Model for PlannedRecord<'a> {
 impl<'a> PlannedRecord<'a> {
     /// Puts the record behind those of a list. Its lists, emptied, are the answer.
     pub(crate) fn put_behind(self, list: &mut RecordList) -> Result<SpareParts, AllocError>
-        ensures { OnOk result (records_of list.new ≡ records_of list.old ++ self.entry ∷ []) }
+        ensures { OnOk result (plan_records_of list.new ≡ plan_records_of list.old ++ self.entry ∷ []) }
     {
         let PlannedRecord {
             kind,

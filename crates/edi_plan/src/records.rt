@@ -11,9 +11,9 @@ ghost use Rattle.edi_plan.specs.PlanOf.{StatesPlanRecord};
 ghost use Rattle.edi_record.specs.RecordRefusal.{IsRecordRefusal};
 ghost use Rattle.edi_plan.specs.EarlierLinks.{IsEarlierLinkIfAny};
 ghost use Rattle.edi_plan.specs.ReferenceRules.{BreaksReferenceRule};
-ghost use Rattle.edi_plan.specs.inner.Resolving.{is_elsewhere, leaves, reference_tests, role_of_link, AreGiven, Gives, AreReferences, IsPlanned, IsUnresolved, LacksClass, Resolves};
+ghost use Rattle.edi_plan.specs.inner.Resolving.{is_elsewhere, leaves, reference_tests, role_of_link, AreGiven, GivesEnd, AreReferences, IsPlanned, IsUnresolved, HasNoAttributeClass, Resolves};
 ghost use Rattle.edi_plan.specs.inner.SideTable.{link_join, HaveEntries, IsNoted};
-ghost use Rattle.edi_plan.specs.inner.RecordLists.{records_of};
+ghost use Rattle.edi_plan.specs.inner.RecordLists.{plan_records_of};
 
 use crate::earlier_links::earlier_link;
 use crate::fault::{RefFault, Unplanned, Unresolved};
@@ -92,7 +92,7 @@ fn plan_attribute(
 ) -> Result<PlanAttribute, Unresolved>
     requires { classes.old ≡ schema.now }
     ensures ok { IfOk result (Resolves schema.now attribute.now) }
-    ensures err { IfErr result (IsUnresolved (λ rule. (rule ≡ 303) × LacksClass schema.now attribute.now)) }
+    ensures err { IfErr result (IsUnresolved (λ rule. (rule ≡ 303) × HasNoAttributeClass schema.now attribute.now)) }
     ensures same { classes.new ≡ schema.now }
 {
     let Some(class) = attribute_class(schema, classes, &attribute.atp) else {
@@ -115,7 +115,7 @@ fn plan_attributes(
     requires empty { done.items ≡ [] }
     requires schema { classes.old ≡ schema.now }
     ensures ok { IfOk result (λ done. AllZip (Resolves schema.now) attributes.now done.items) }
-    ensures err { IfErr result (IsUnresolved (λ rule. (rule ≡ 303) × Any (LacksClass schema.now) attributes.now)) }
+    ensures err { IfErr result (IsUnresolved (λ rule. (rule ≡ 303) × Any (HasNoAttributeClass schema.now) attributes.now)) }
     ensures same { classes.new ≡ schema.now }
 {
     for attribute in attributes {
@@ -125,7 +125,7 @@ fn plan_attributes(
 }
 
 fn plan_end(target: Target, end: &End) -> Result<PlanEnd, AllocError>
-    ensures { IfOk result (Gives (Some target) end.now) }
+    ensures { IfOk result (GivesEnd (Some target) end.now) }
 {
     Ok(PlanEnd {
         target: target.place,
@@ -283,7 +283,7 @@ pub(crate) fn plan_records(
 ) -> Result<Planned, Unplanned>
     requires few { length records ≤ most_records }
     requires references { AreReferences records references.now }
-    ensures each { IfOk result (λ p. AllZip (StatesPlanRecord schema.now records) records (records_of p.list)) }
+    ensures each { IfOk result (λ p. AllZip (StatesPlanRecord schema.now records) records (plan_records_of p.list)) }
     ensures sides { IfOk result (λ p. IsDone schema.now records (length records) p.sides.items) }
     ensures least { IfErr result (λ u. IsRecordRefusal (BreaksReferenceRule schema.now records) u.fault) }
     ensures earlier { IfErr result (λ u. IsEarlierLinkIfAny schema.now records u.fault u.earlier) }

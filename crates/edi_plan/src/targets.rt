@@ -3,7 +3,7 @@
 ghost use Rattle.std.specs.Prelude.{◌≡◌, ◌++◌, List, IfOk, IfSome, OnOk, true, false};
 ghost use Rattle.std.specs.List.{AllZip};
 ghost use Rattle.edi_record.specs.declared.record.End.{End as Ends};
-ghost use Rattle.edi_plan.specs.inner.Names.{named, AreNamesOf, IsFirstRepeatIfAny};
+ghost use Rattle.edi_plan.specs.inner.Names.{name_lent, AreFirstPlaces, IsFirstRepeatedNameIfAny};
 ghost use Rattle.edi_plan.specs.inner.Found.{FindsAll};
 ghost use Rattle.edi_plan.specs.PlanOf.{place_named};
 ghost use Rattle.edi_record.specs.Records.{is_link};
@@ -80,7 +80,7 @@ impl LastNamed {
 
 /// The place of a record of this name, if it is this one or the next.
 fn place_near(records: &SheetRecords, last: u32, name: &RecordNameRef<'_>) -> Option<u32>
-    ensures { IfSome result (HasNameAt records.now (named name.now)) }
+    ensures { IfSome result (HasNameAt records.now (name_lent name.now)) }
 {
     if has_name(records, last, name) {
         return Some(last);
@@ -102,9 +102,9 @@ fn tabled_place(
     name: &RecordNameRef<'_>,
 ) -> Option<u32>
     requires no_link { is_link name.now.kind ≡ false }
-    requires names { AreNamesOf records.now names.now }
-    requires repeat { IsFirstRepeatIfAny records.now names.now.repeat }
-    ensures { result ≡ place_named records.now (named name.now) }
+    requires names { AreFirstPlaces records.now names.now }
+    requires repeat { IsFirstRepeatedNameIfAny records.now names.now.repeat }
+    ensures { result ≡ place_named records.now (name_lent name.now) }
 {
     if names.repeat.is_none()
         && let Some(place) = place_near(records, last, name)
@@ -123,7 +123,7 @@ fn place_of(
 ) -> Option<u32>
     requires no_link { is_link name.now.kind ≡ false }
     requires names { FindsAll records.now names.now }
-    ensures { result ≡ place_named records.now (named name.now) }
+    ensures { result ≡ place_named records.now (name_lent name.now) }
 {
     match names {
         NamePlaces::Hinted(hints) => hints.place(records, name),

@@ -9,7 +9,7 @@ use Rattle.edi_line.proofs.ZonesFound.{zones_of}
 use Rattle.edi_line.proofs.KnownFiles.{zones_as}
 use Rattle.edi_line.proofs.ZonesSaid.{zones_of_one}
 use Rattle.edi_record.specs.Texts.{IsPosition}
-use Rattle.edi_record.specs.inner.Texts.{point}
+use Rattle.edi_record.specs.inner.Texts.{point_in}
 use Rattle.edi_record.proofs.TextParts.{place_is}
 use Rattle.edi_plan.specs.Plans.{PlanData}
 use Rattle.edi_rank.specs.Same.{Same}
@@ -58,8 +58,8 @@ file_groups : groups_of (zones_of node_file) ≡ file_group ∷ []
 unfolding reading_of has_head
 file_groups = refl
 
-file_read : point (codes "+10.5;+20;") ≡ Some flat_point
-unfolding number whole_number fraction_number point
+file_read : point_in (codes "+10.5;+20;") ≡ Some flat_point
+unfolding number whole_number fraction_number point_in
 file_read = refl
 
 file_position : IsPosition (codes "+10.5;+20;") flat_point

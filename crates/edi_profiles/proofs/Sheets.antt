@@ -13,8 +13,8 @@ use Rattle.edi_line.proofs.ZonesSaid.{zones_of_one}
 use Rattle.edi_record.specs.Records.{States}
 use Rattle.edi_record.specs.Rows.{node_group}
 use Rattle.edi_record.specs.Texts.{IsPosition}
-use Rattle.edi_record.specs.inner.Records.{ReadsAs, set_after, value_after, attributes, sns_after, ends, placed}
-use Rattle.edi_record.specs.inner.Texts.{pointer, point}
+use Rattle.edi_record.specs.inner.Records.{ReadsAsRecord, set_after, value_after, attributes, sns_after, ends, zones_placed}
+use Rattle.edi_record.specs.inner.Texts.{pointer, point_in}
 use Rattle.edi_record.specs.declared.record.Kind.TheVariants.{Pno}
 use Rattle.edi_record.specs.declared.record.Point.{Point}
 use Rattle.edi_record.specs.declared.sheet.Sheet.{Sheet}
@@ -76,8 +76,8 @@ high_groups : groups_of (zones_of high_sheet) ≡ high_group ∷ []
 unfolding reading_of has_head
 high_groups = refl
 
-high_read : point (codes "1;2;3;") ≡ Some high_point
-unfolding number whole_number fraction_number point
+high_read : point_in (codes "1;2;3;") ≡ Some high_point
+unfolding number whole_number fraction_number point_in
 high_read = refl
 
 high_position : IsPosition (codes "1;2;3;") high_point
@@ -106,12 +106,12 @@ shared_set : None ≡ Rattle.std.specs.Prelude.option_map (λ (e : ZoneData). e.
 unfolding reading_of has_head
 shared_set = refl
 
-first_stated : ReadsAs first_group (node_of (codes "a") [])
-unfolding number whole_number fraction_number pointer point set_after value_after attributes sns_after ends placed
+first_stated : ReadsAsRecord first_group (node_of (codes "a") [])
+unfolding number whole_number fraction_number pointer point_in set_after value_after attributes sns_after ends zones_placed
 first_stated = record { type = refl; rid = refl; scp = refl; points = refl; ends = refl; attributes = refl; extras = refl }
 
-second_stated : ReadsAs second_group (node_of (codes "b") (extra_zone ∷ []))
-unfolding number whole_number fraction_number pointer point set_after value_after attributes sns_after ends placed
+second_stated : ReadsAsRecord second_group (node_of (codes "b") (extra_zone ∷ []))
+unfolding number whole_number fraction_number pointer point_in set_after value_after attributes sns_after ends zones_placed
 second_stated = record { type = refl; rid = refl; scp = refl; points = refl; ends = refl; attributes = refl; extras = refl }
 
 abbrev two_nodes : Sheet

@@ -13,7 +13,7 @@ use Rattle.edi_rank.specs.contracts.keys.NumberedEndOrd.TheImpl.{ghosts as ends}
 use Rattle.edi_rank.specs.contracts.placed_link.PlainPairOrd.TheImpl.{ghosts as pairs}
 use Rattle.edi_rank.specs.declared.placed_link.PlainEnd.{PlainEnd}
 use Rattle.edi_rank.specs.declared.placed_link.PlainPair.{PlainPair}
-use Rattle.edi_rank.specs.inner.PlacedLinks.{end_of, least_packed, packed_kind, pair_key}
+use Rattle.edi_rank.specs.inner.PlacedLinks.{unpacked_end, least_packed, packed_kind, pair_key}
 use Rattle.edi_rank.proofs.KeyOrders.{end_order}
 
 -- the type of a packed end
@@ -106,11 +106,11 @@ then_none Less = refl
 then_none Equal = refl
 then_none Greater = refl
 
-end_by_end : (a b : PlainEnd) → nat_cmp a.packed b.packed ≡ ends.cmp (end_of a) (end_of b)
+end_by_end : (a b : PlainEnd) → nat_cmp a.packed b.packed ≡ ends.cmp (unpacked_end a) (unpacked_end b)
 end_by_end a b =
     order_in_parts a.packed b.packed (packed_kind a.packed) (packed_kind b.packed) (of_type a.packed) (of_type b.packed)
     ∙ (ap (ordering_then (nat_cmp (kind_rank (packed_kind a.packed)) (kind_rank (packed_kind b.packed)))) (then_none _)
-    ∙ sym (end_order (end_of a) (end_of b)))
+    ∙ sym (end_order (unpacked_end a) (unpacked_end b)))
 
 two_then : (o p : Ordering) → ordering_then o p ≡ ordering_then (ordering_then o (ordering_then p Equal)) Equal
 two_then Less p = refl
@@ -123,5 +123,5 @@ pub pair_order : (class : ℕ) (a b : PlainPair) → pairs.cmp a b ≡ links.cmp
 pair_order class a b =
     ap₂ ordering_then (end_by_end a.origin b.origin) (end_by_end a.other b.other)
     ∙ (two_then _ _
-    ∙ ap (λ o. ordering_then o (ordering_then (ordering_then (ends.cmp (end_of a.origin) (end_of b.origin)) (ordering_then (ends.cmp (end_of a.other) (end_of b.other)) Equal)) Equal))
+    ∙ ap (λ o. ordering_then o (ordering_then (ordering_then (ends.cmp (unpacked_end a.origin) (unpacked_end b.origin)) (ordering_then (ends.cmp (unpacked_end a.other) (unpacked_end b.other)) Equal)) Equal))
     (nat_cmp_is class class Equal refl))

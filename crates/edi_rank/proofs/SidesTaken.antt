@@ -16,7 +16,7 @@ use Rattle.edi_rank.specs.Keys.{least_side}
 use Rattle.edi_rank.specs.Layers.{forward_plan}
 use Rattle.edi_rank.specs.Turned.{is_backward}
 use Rattle.edi_rank.specs.declared.keys.FaceKey.{FaceKey}
-use Rattle.edi_rank.specs.inner.ArcSides.{side_key, lesser_of, IsTaken}
+use Rattle.edi_rank.specs.inner.ArcSides.{side_key, lesser_of, IsSideTaken}
 use Rattle.edi_rank.proofs.LeastSides.{IsLeastOf, least_with, least_of_same, one_least}
 use Rattle.edi_rank.proofs.Sided.{OnSide, least_is_of}
 
@@ -30,11 +30,11 @@ module _ (p : PlanData) (number : ℕ → ℕ) where
 
   -- what an arc has by a role is set at its place, and nothing elsewhere
   pub one_taken : IsJoined p → (arc : ℕ) (role : Role) (sides : List (Option FaceKey)) (x : ℕ) (side : FaceKey) → length sides ≡ length p.list → IsPlace p x → Side p arc role x
-      → side ≡ lesser_of (get_or sides x None) (side_key p number arc role) → (face : ℕ) → IsTaken p number arc role face (get_or sides face None) (get_or (set sides x (Some side)) face None)
+      → side ≡ lesser_of (get_or sides x None) (side_key p number arc role) → (face : ℕ) → IsSideTaken p number arc role face (get_or sides face None) (get_or (set sides x (Some side)) face None)
   one_taken joined arc role sides x side long there has is face = go (cases_eq face x)
     where
-      go : (face ≡ x) ⊎ (face ≡ x → ⊥) → IsTaken p number arc role face (get_or sides face None) (get_or (set sides x (Some side)) face None)
-      go (inl e) = subst (λ y. IsTaken p number arc role y (get_or sides y None) (get_or (set sides x (Some side)) y None)) (sym e)
+      go : (face ≡ x) ⊎ (face ≡ x → ⊥) → IsSideTaken p number arc role face (get_or sides face None) (get_or (set sides x (Some side)) face None)
+      go (inl e) = subst (λ y. IsSideTaken p number arc role y (get_or sides y None) (get_or (set sides x (Some side)) y None)) (sym e)
           (inl (has, get_or-set_same sides x (Some side) None (omega (arith, there, long)) ∙ ap Some is))
       go (inr other) = inr (λ s. other (one_side p joined arc face x role s has), get_or-set_other sides x face (Some side) None other)
 
@@ -43,7 +43,7 @@ module _ (p : PlanData) (number : ℕ → ℕ) where
     abbrev OrBy : (FaceKey → Type 0) → ℕ → Role → FaceKey → Type 0
     OrBy P arc role key = P key ⊎ (Side p arc role face × (key ≡ side_key p number arc role))
 
-    taken_least : (P : FaceKey → Type 0) (arc : ℕ) (role : Role) (before after : Option FaceKey) → IsTaken p number arc role face before after → IsLeastOf P before → IsLeastOf (OrBy P arc role) after
+    taken_least : (P : FaceKey → Type 0) (arc : ℕ) (role : Role) (before after : Option FaceKey) → IsSideTaken p number arc role face before after → IsLeastOf P before → IsLeastOf (OrBy P arc role) after
     taken_least P arc role before after (inl d) least =
         subst (IsLeastOf (OrBy P arc role)) (sym d.1) (least_with P (OrBy P arc role) before (side_key p number arc role) least (λ key h. inl h) (inr (d.0, refl)) back)
       where
@@ -87,13 +87,13 @@ module _ (p : PlanData) (number : ℕ → ℕ) where
           go (inl e) = here key d.0.arc d.0.role d.0.is_side d.0.side d.0.key_is (ap (λ m. get_or (places_of Par p) m 0) (sym e) ∙ d.3)
           go (inr other) = inl (inl (d.0, d.1, below d.1 d.2 other, d.3))
 
-      both_taken : (before between after : Option FaceKey) → IsTaken p number arc Left face before between → IsTaken p number arc Right face between after → IsLeastOf Below before → IsLeastOf (OnSideBelow (n + 1) face) after
+      both_taken : (before between after : Option FaceKey) → IsSideTaken p number arc Left face before between → IsSideTaken p number arc Right face between after → IsLeastOf Below before → IsLeastOf (OnSideBelow (n + 1) face) after
       both_taken before between after left right least =
           least_of_same WithBoth (OnSideBelow (n + 1) face) after (taken_least (OrBy Below arc Left) arc Right between after right (taken_least Below arc Left before between left least)) there back
 
   -- one arc more
-  pub arc_taken : (n : ℕ) (before between after : List (Option FaceKey)) → ((face : ℕ) → IsTaken p number (get_or (places_of Par p) n 0) Left face (get_or before face None) (get_or between face None))
-      → ((face : ℕ) → IsTaken p number (get_or (places_of Par p) n 0) Right face (get_or between face None) (get_or after face None)) → AreLeastBelow n before → AreLeastBelow (n + 1) after
+  pub arc_taken : (n : ℕ) (before between after : List (Option FaceKey)) → ((face : ℕ) → IsSideTaken p number (get_or (places_of Par p) n 0) Left face (get_or before face None) (get_or between face None))
+      → ((face : ℕ) → IsSideTaken p number (get_or (places_of Par p) n 0) Right face (get_or between face None) (get_or after face None)) → AreLeastBelow n before → AreLeastBelow (n + 1) after
   arc_taken n before between after left right least face h = both_taken face n (get_or before face None) (get_or between face None) (get_or after face None) (left face) (right face) (least face h)
 
   -- all arcs

@@ -5,7 +5,7 @@ ghost use Rattle.edi_record.specs.declared.record.Kind.TheVariants.{Par, Pfe};
 ghost use Rattle.edi_schema.specs.Roles.{exchanged};
 ghost use Rattle.edi_plan.specs.Places.{places_of};
 ghost use Rattle.edi_plan.specs.Plans.{IsPlace};
-ghost use Rattle.edi_rank.specs.inner.ArcSides.{IsTaken, lesser_of};
+ghost use Rattle.edi_rank.specs.inner.ArcSides.{IsSideTaken, lesser_of};
 ghost use Rattle.edi_rank.specs.Keys.{least_side};
 ghost use Rattle.edi_rank.specs.Labelling.{turned_at};
 ghost use Rattle.edi_rank.specs.Turned.{is_backward};
@@ -128,7 +128,7 @@ fn take_side(
     requires turned { (k : ℕ) → IsPlace plan.now k → turned_at turned.now k ≡ is_backward plan.now k }
     ensures long { length sides.new.items ≡ length plan.now.list }
     ensures taken { (face : ℕ)
-        → IsTaken plan.now (slice_index numbers.now) arc role face (slice_index_or sides.old.items face None)
+        → IsSideTaken plan.now (slice_index numbers.now) arc role face (slice_index_or sides.old.items face None)
         (slice_index_or sides.new.items face None) }
 {
     plan.keeps();

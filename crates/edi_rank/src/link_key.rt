@@ -11,7 +11,7 @@ ghost use Rattle.edi_rank.specs.EndOrder.{GivesEach, PutsInOrder, ends_at};
 ghost use Rattle.edi_rank.specs.Keys.{IsPlainLink, ends_key, numbered};
 ghost use Rattle.edi_rank.specs.Labelling.{turned_at};
 ghost use Rattle.edi_rank.specs.Same.{class_after};
-ghost use Rattle.edi_rank.specs.inner.PlacedLinks.{end_of, is_empty, pair_key};
+ghost use Rattle.edi_rank.specs.inner.PlacedLinks.{unpacked_end, is_empty, pair_key};
 
 use crate::ends::{end_in_order, numbered_end};
 use crate::keys::{LinkKey, NumberedEnd};
@@ -106,7 +106,7 @@ fn plain_end(plan: &Plan, numbers: &[u32], end: &PlanEnd) -> Option<PlainEnd>
     requires place { IsPlace plan.now end.now.target }
     requires numbers { length numbers.now ≡ length plan.now.list }
     ensures { IfSome result (λ plain. end.now.sns ≡ None
-        → end_of plain ≡ numbered plan.now (slice_index numbers.now) end.now) }
+        → unpacked_end plain ≡ numbered plan.now (slice_index numbers.now) end.now) }
 {
     packed_end(plan.kind(end.target), numbers[end.target as usize])
 }

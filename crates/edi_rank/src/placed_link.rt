@@ -7,7 +7,7 @@ ghost use Rattle.std.specs.Cmp.Lexicographic.{slice_cmp};
 ghost use Rattle.std.specs.Cmp.{eq_by_cmp_equiv, partial_equiv_from_equiv, partial_order_from_total};
 ghost use Rattle.edi_rank.specs.contracts.keys.LinkKeyOrd.TheImpl.{ghosts as links};
 ghost use Rattle.edi_rank.specs.contracts.keys.NumberedEndOrd.TheImpl.{ghosts as ends};
-ghost use Rattle.edi_rank.specs.inner.PlacedLinks.{IsBareIfSaid, IsOfClass, end_of as end_by, has_neither, key_in, least_packed, packed_kind, pair_key, placed_cmp, placed_total, rest_cmp};
+ghost use Rattle.edi_rank.specs.inner.PlacedLinks.{IsBareIfSaid, IsOfClass, unpacked_end as end_by, has_neither, key_in, least_packed, packed_kind, pair_key, placed_cmp, placed_total, rest_cmp};
 
 use crate::keys::{LinkKey, NumberedEnd};
 use edi_record::Kind;

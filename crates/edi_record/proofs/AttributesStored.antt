@@ -9,7 +9,7 @@ use Rattle.edi_line.specs.ZoneData.{ZoneData, has_code}
 use Rattle.edi_record.specs.inner.Texts.{pointer}
 use Rattle.edi_record.specs.Texts.{shown}
 use Rattle.edi_record.specs.Records.{opens, closes}
-use Rattle.edi_record.specs.inner.Records.{set_after, value_after, attributes, placed}
+use Rattle.edi_record.specs.inner.Records.{set_after, value_after, attributes, zones_placed}
 use Rattle.edi_record.specs.inner.RecordRules.{count_until, has_bad_attribute}
 use Rattle.edi_record.specs.inner.Stored.{is_stray, set_with, set_come, attribute_of, attributes_with, closed_with, repeats_with, StoresAttributes, KeptAttributes}
 use Rattle.edi_record.specs.declared.attributes.OpenAttribute.{OpenAttribute}
@@ -84,7 +84,7 @@ class_taken old new class z left group text e same read same_broken opened done 
       closed_in (z ∷ left) group [] old.opened old.done new.done (set_stops z left (or_left _ _ e)) (value_stops z left e) (h.made (sym same_broken ∙ b)) done
       ∙ ap (λ t. map Some new.done ++ t) (class_read z left text (shown class) e (sym same) read)
       ∙ ap (λ o. map Some new.done ++ attributes_with o left) (sym opened);
-  stray = λ b. h.stray (sym same_broken ∙ b) ∙ stray_opens (is_some old.opened) z left e ∙ ap (λ o. list_any is_stray (placed (is_some o) left)) (sym opened);
+  stray = λ b. h.stray (sym same_broken ∙ b) ∙ stray_opens (is_some old.opened) z left e ∙ ap (λ o. list_any is_stray (zones_placed (is_some o) left)) (sym opened);
   repeated = λ b.
       h.repeated (sym same_broken ∙ b) ∙ repeats_over (z ∷ left) old.opened (no_sets z left (or_left _ _ e)) ∙ here ∙ ap (λ o. repeats_with o left) (sym opened);
 }
@@ -156,8 +156,8 @@ set_taken old new o n z left group e was no_set same_broken same_done is class s
       h.made (sym same_broken ∙ b) ∙ ap (λ t. map Some old.done ++ attributes_with t (z ∷ left)) was ∙ ap (λ t. map Some old.done ++ t) (here ∙ sym there)
       ∙ ap (λ t. map Some t ++ attributes_with (Some n) left) (sym same_done) ∙ ap (λ t. map Some new.done ++ attributes_with t left) (sym is);
   stray = λ b.
-      h.stray (sym same_broken ∙ b) ∙ ap (λ t. list_any is_stray (placed (is_some t) (z ∷ left))) was ∙ stray_skips true z left (set_only z e).0 (set_only z e).1
-      ∙ ap (λ t. list_any is_stray (placed (is_some t) left)) (sym is);
+      h.stray (sym same_broken ∙ b) ∙ ap (λ t. list_any is_stray (zones_placed (is_some t) (z ∷ left))) was ∙ stray_skips true z left (set_only z e).0 (set_only z e).1
+      ∙ ap (λ t. list_any is_stray (zones_placed (is_some t) left)) (sym is);
   repeated = λ b. h.repeated (sym same_broken ∙ b) ∙ ap (λ t. repeats_with t (z ∷ left)) was ∙ once ∙ ap (λ t. repeats_with t left) (sym is);
 }
   where
@@ -184,7 +184,7 @@ value_taken old new z left group text e same was same_broken is done h = record 
   made = λ b.
       closed_in (z ∷ left) group text old.opened old.done new.done (set_stops z left (or_right _ _ e)) (sym same ∙ value_found z left (value_only z e).0 e) (h.made (sym same_broken ∙ b)) done
       ∙ ap (λ t. map Some new.done ++ t) (attributes_skip z left (value_only z e).0) ∙ ap (λ t. map Some new.done ++ attributes_with t left) (sym is);
-  stray = λ b. h.stray (sym same_broken ∙ b) ∙ stray_closes (is_some old.opened) z left (value_only z e).0 e was ∙ ap (λ t. list_any is_stray (placed (is_some t) left)) (sym is);
+  stray = λ b. h.stray (sym same_broken ∙ b) ∙ stray_closes (is_some old.opened) z left (value_only z e).0 e was ∙ ap (λ t. list_any is_stray (zones_placed (is_some t) left)) (sym is);
   repeated = λ b.
       h.repeated (sym same_broken ∙ b) ∙ repeats_over (z ∷ left) old.opened (no_sets z left (or_right _ _ e)) ∙ skips_repeat z left (value_only z e).0 ∙ ap (λ t. repeats_with t left) (sym is);
 }
@@ -199,4 +199,4 @@ attributes_come a done group b closed h = closed_in [] group [] a.opened a.done 
 
 pub attributes_sound : (a : KeptAttributes) (done : List Attribute) (group : List ZoneData) → a.is_broken ≡ false → done ≡ a.done ++ closed_with [] a.opened → StoresAttributes a [] group → has_bad_attribute group ≡ false
 attributes_sound a done group b closed h =
-    good_attributes group done (list_any is_stray (placed false group)) (repeats_with None group) (attributes_come a done group b closed h) refl (h.stray b ∙ stray_end (is_some a.opened)) refl (h.repeated b ∙ repeats_over [] a.opened refl)
+    good_attributes group done (list_any is_stray (zones_placed false group)) (repeats_with None group) (attributes_come a done group b closed h) refl (h.stray b ∙ stray_end (is_some a.opened)) refl (h.repeated b ∙ repeats_over [] a.opened refl)

@@ -8,7 +8,7 @@ use Rattle.edi_record.specs.inner.Texts.{pointer}
 use Rattle.edi_record.specs.Texts.{shown}
 use Rattle.edi_record.specs.Records.{is_link, points_at}
 use Rattle.edi_record.specs.inner.Records.{sns_after, ends}
-use Rattle.edi_record.specs.inner.RecordRules.{kind_in, count_until, repeats, has_bad_end}
+use Rattle.edi_record.specs.inner.RecordRules.{kind_in, count_until, repeats_code, has_bad_end}
 use Rattle.edi_record.specs.inner.Stored.{has_stray, sns_with, sns_come, end_with, ends_with, ended_with, bad_sns_with, StoresEnds, KeptEnds}
 use Rattle.edi_record.specs.declared.ends.OpenEnd.{OpenEnd}
 use Rattle.edi_record.specs.declared.pointer.Pointer.{Pointer}
@@ -23,7 +23,7 @@ abbrev senses_left : List ZoneData → ℕ
 senses_left zs = count_until points_at (codes "SNS") zs
 
 abbrev repeats_left : List ZoneData → Bool
-repeats_left zs = repeats points_at points_at (codes "SNS") zs
+repeats_left zs = repeats_code points_at points_at (codes "SNS") zs
 
 pub sense_only : (z : ZoneData) → has_code (codes "SNS") z ≡ true → points_at z ≡ false
 sense_only z e = let same = code_is z (codes "SNS") e in rw same refl

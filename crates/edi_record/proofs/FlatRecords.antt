@@ -8,7 +8,7 @@ use Rattle.edi_record.specs.declared.block.Head.{Head}
 use Rattle.edi_record.specs.declared.part_lists.Stops.{Stops}
 use Rattle.edi_record.specs.AnyRecords.{Parts, AnyRecord}
 use Rattle.edi_record.specs.inner.FlatRecords.{no_stops, stops_before, parts_between, records_from}
-use Rattle.edi_record.specs.inner.FlatRecords.{IsPart, ArePartsTo, AreEnds, AreParts}
+use Rattle.edi_record.specs.inner.FlatRecords.{IsPartWithin, ArePartsTo, AreEnds, FillLists}
 use Rattle.edi_record.specs.inner.PartLists.{AreStopsAfter}
 
 pub records_long : {H A E : Type 0} (all : Parts A E) (from : Stops) (hs : List (Head H))
@@ -18,8 +18,8 @@ records_long all from (h ∷ hs) = ap suc (records_long all h.stops hs)
 
 -- a part of a list that grows is the same part, and what is added to the list is one more
 module _ {X : Type 0} (xs ys : List X) (from to : ℕ) where
-  part_stays : IsPart (length xs) from to
-      → IsPart (length (xs ++ ys)) from to × (slice_range (xs ++ ys) from to ≡ slice_range xs from to)
+  part_stays : IsPartWithin (length xs) from to
+      → IsPartWithin (length (xs ++ ys)) from to × (slice_range (xs ++ ys) from to ≡ slice_range xs from to)
   part_stays is =
       let left : to - from ≤ length (drop from xs) = omega (arith, is.rises, is.ends, length-drop from xs) in (
         record { rises = is.rises; ends = omega (arith, is.ends, length-append xs ys) },
@@ -28,7 +28,7 @@ module _ {X : Type 0} (xs ys : List X) (from to : ℕ) where
       )
 
   part_added : from ≡ length xs → to ≡ length xs + length ys
-      → IsPart (length (xs ++ ys)) from to × (slice_range (xs ++ ys) from to ≡ ys) × (to ≡ length (xs ++ ys))
+      → IsPartWithin (length (xs ++ ys)) from to × (slice_range (xs ++ ys) from to ≡ ys) × (to ≡ length (xs ++ ys))
   part_added begins stops =
       let long : to - from ≡ length ys = omega (arith, begins, stops) in (
         record { rises = omega (arith, begins, stops); ends = omega (arith, stops, length-append xs ys) },
@@ -81,8 +81,8 @@ module _ {H A E : Type 0} (old : Parts A E) (e : AnyRecord H A E) where
   abbrev head_to : Stops → Head H
   head_to to = record { head = e.head; stops = to }
 
-  records_more : (from to : Stops) (hs : List (Head H)) → AreStops to → AreParts old from hs
-      → AreParts grown from (hs ++ head_to to ∷ [])
+  records_more : (from to : Stops) (hs : List (Head H)) → AreStops to → FillLists old from hs
+      → FillLists grown from (hs ++ head_to to ∷ [])
       × (records_from grown from (hs ++ head_to to ∷ []) ≡ records_from old from hs ++ e ∷ [])
   records_more from to [] stops ends =
       let added = parts_added from to ends stops in
@@ -103,8 +103,8 @@ module _ {H A E : Type 0} (old : Parts A E) (e : AnyRecord H A E) where
       pub heads_are : heads ≡ hs ++ head_to to ∷ []
       pub stops : AreStops to
 
-    pub pushed : IsPushed → AreParts old no_stops hs
-        → AreParts now no_stops heads × (records_from now no_stops heads ≡ records_from old no_stops hs ++ e ∷ [])
+    pub pushed : IsPushed → FillLists old no_stops hs
+        → FillLists now no_stops heads × (records_from now no_stops heads ≡ records_from old no_stops hs ++ e ∷ [])
     pushed is all =
         let grows : now ≡ grown = λ i. record {
           points = (is.points ∙ ap (λ (q : Parts A E). q.points ++ e.parts.points) is.same) i;
@@ -124,7 +124,7 @@ stops_there from (x ∷ hs) (suc k) h less is = stops_there x.stops hs k h (omeg
 
 module _ {H A E : Type 0} (all : Parts A E) where
   pub parts_there : (from : Stops) (hs : List (Head H)) (k : ℕ) (h : Head H) → k < length hs → h ≡ get_or hs k h
-      → AreParts all from hs → ArePartsTo all (stops_before k from hs) h.stops
+      → FillLists all from hs → ArePartsTo all (stops_before k from hs) h.stops
   parts_there from [] k h less is are = absurd (omega (arith, less))
   parts_there from (x ∷ hs) zero h less is are = subst (λ (y : Head _). ArePartsTo all from y.stops) (sym is) are.0
   parts_there from (x ∷ hs) (suc k) h less is are = parts_there x.stops hs k h (omega (arith, less)) is are.1

@@ -6,8 +6,8 @@ use Rattle.edi_line.specs.ZoneData.{ZoneData, has_code}
 use Rattle.edi_record.specs.Records.{points_at, is_known}
 use Rattle.edi_record.specs.Texts.{shown}
 use Rattle.edi_record.specs.inner.GroupRules.{closes_by}
-use Rattle.edi_record.specs.inner.Records.{Placed, placed, is_open_after, is_extra}
-use Rattle.edi_record.specs.inner.RecordRules.{count_until, repeats}
+use Rattle.edi_record.specs.inner.Records.{Placed, zones_placed, is_open_after, is_extra}
+use Rattle.edi_record.specs.inner.RecordRules.{count_until, repeats_code}
 use Rattle.edi_record.specs.inner.Stored.{role_in}
 use Rattle.edi_record.specs.inner.Texts.{pointer}
 use Rattle.edi_record.specs.declared.pointer.Pointer.{Pointer}
@@ -27,17 +27,17 @@ no_pointer_told text (Some p) false e found = ap is_none found
 
 -- ---- zones, with whether an attribute is open in front of them
 
-pub placed_found : (test : Placed → Bool) (b : Bool) (z : ZoneData) (zs : List ZoneData) → test (record { open_before = b; zone = z }) ≡ true → list_any test (placed b (z ∷ zs)) ≡ true
-unfolding placed
+pub placed_found : (test : Placed → Bool) (b : Bool) (z : ZoneData) (zs : List ZoneData) → test (record { open_before = b; zone = z }) ≡ true → list_any test (zones_placed b (z ∷ zs)) ≡ true
+unfolding zones_placed
 placed_found test b z zs e = or_left _ _ e
 
 pub placed_passed : (test : Placed → Bool) (b next : Bool) (z : ZoneData) (zs : List ZoneData) → test (record { open_before = b; zone = z }) ≡ false → next ≡ is_open_after b z
-    → list_any test (placed b (z ∷ zs)) ≡ list_any test (placed next zs)
-unfolding placed
+    → list_any test (zones_placed b (z ∷ zs)) ≡ list_any test (zones_placed next zs)
+unfolding zones_placed
 placed_passed test b next z zs e opened = rw (e, opened) refl
 
-pub placed_end : (test : Placed → Bool) (b : Bool) → list_any test (placed b []) ≡ false
-unfolding placed
+pub placed_end : (test : Placed → Bool) (b : Bool) → list_any test (zones_placed b []) ≡ false
+unfolding zones_placed
 placed_end test b = refl
 
 -- ---- an SNS before any FTP
@@ -82,7 +82,7 @@ same_count : (p q : ZoneData → Bool) → ((z : ZoneData) → p z ≡ q z) → 
 same_count p q same code [] = refl
 same_count p q same code (z ∷ zs) = rw (same z, same_count p q same code zs) refl
 
-same_repeats : (opens p q : ZoneData → Bool) → ((z : ZoneData) → p z ≡ q z) → (code : List ℕ) (zs : List ZoneData) → repeats opens p code zs ≡ repeats opens q code zs
+same_repeats : (opens p q : ZoneData → Bool) → ((z : ZoneData) → p z ≡ q z) → (code : List ℕ) (zs : List ZoneData) → repeats_code opens p code zs ≡ repeats_code opens q code zs
 same_repeats opens p q same code [] = refl
 same_repeats opens p q same code (z ∷ zs) = rw (same_count p q same code zs, same_repeats opens p q same code zs) refl
 
@@ -90,5 +90,5 @@ twice : (b : Bool) → (b || b) ≡ b
 twice true = refl
 twice false = refl
 
-pub ends_repeat : (zs : List ZoneData) → repeats (has_code (codes "FTP")) (closes_by (codes "FTP") (codes "FTP")) (codes "SNS") zs ≡ repeats points_at points_at (codes "SNS") zs
+pub ends_repeat : (zs : List ZoneData) → repeats_code (has_code (codes "FTP")) (closes_by (codes "FTP") (codes "FTP")) (codes "SNS") zs ≡ repeats_code points_at points_at (codes "SNS") zs
 ends_repeat zs = same_repeats points_at (closes_by (codes "FTP") (codes "FTP")) points_at (λ z. twice (points_at z)) (codes "SNS") zs

@@ -2,7 +2,7 @@
 use Rattle.std.proofs.Common.{◌≡◌, ℕ, zero, suc, ◌+◌, ◌-◌, ◌*◌, ◌/◌, ◌%◌, ◌<◌, ◌≤◌, List, [], ◌∷◌, ◌++◌}
 use Rattle.std.proofs.Common.{length, get_or, flat_map, refl, sym, ap, ◌∙◌, arith, length-append, append_assoc}
 use Rattle.std.specs.List.{AllByRecursion, slice_get}
-use Rattle.edi_record.specs.inner.BlockLists.{joined, IsFull, AreBlocks}
+use Rattle.edi_record.specs.inner.BlockLists.{blocks_joined, IsFull, AreBlocks}
 
 module _ {X : Type 0} where
   get_left : (xs ys : List X) (k : ℕ) → k < length xs → slice_get (xs ++ ys) k ≡ slice_get xs k
@@ -52,25 +52,25 @@ module _ {X : Type 0} where
           ∙ (more (k - 256) (omega (arith, place, less)) ∙ λ i. slice_get (get_or bs (place i) d) (same i))))
 
   module _ (closed : List (List X)) (last : List X) (are : AreBlocks closed last) where
-    pub joined_long : length (joined closed last) ≡ length closed * 256 + length last
-    unfolding joined
+    pub joined_long : length (blocks_joined closed last) ≡ length closed * 256 + length last
+    unfolding blocks_joined
     joined_long = omega (arith, length-append (flat_map (λ xs. xs) closed) last, full_long closed are.full)
 
     module _ (place : ℕ) where
       pub closed_same : (b : List X) → place / 256 < length closed → b ≡ get_or closed (place / 256) b
-          → slice_get (joined closed last) place ≡ slice_get b (place % 256)
-      unfolding joined
+          → slice_get (blocks_joined closed last) place ≡ slice_get b (place % 256)
+      unfolding blocks_joined
       closed_same b less is = in_full closed last place b are.full less ∙ ap (λ c. slice_get c (place % 256)) (sym is)
 
-      module _ (there : place < length (joined closed last)) (later : length closed ≤ place / 256) where
+      module _ (there : place < length (blocks_joined closed last)) (later : length closed ≤ place / 256) where
         at_last : place - length closed * 256 ≡ place % 256
         at_last = omega (arith, joined_long, are.short, there, later)
 
         pub last_there : place % 256 < length last
         last_there = omega (arith, joined_long, there, at_last, later)
 
-        pub last_same : slice_get (joined closed last) place ≡ slice_get last (place % 256)
-        unfolding joined
+        pub last_same : slice_get (blocks_joined closed last) place ≡ slice_get last (place % 256)
+        unfolding blocks_joined
         last_same =
             let long = full_long closed are.full in
             get_right (flat_map (λ xs. xs) closed) last place (omega (arith, later, long))

@@ -5,7 +5,7 @@ use Rattle.std.specs.List.{before_first}
 use Rattle.std.proofs.lemmas.Bool.{or_left, or_right, or_from}
 use Rattle.edi_line.specs.ZoneData.{ZoneData, has_code, first}
 use Rattle.edi_record.specs.Records.{values, opens, closes, points_at}
-use Rattle.edi_record.specs.inner.Records.{set_after, value_after, attribute, attributes, sns_after, end_of, ends}
+use Rattle.edi_record.specs.inner.Records.{set_after, value_after, attribute, attributes, sns_after, end_with_sense, ends}
 use Rattle.edi_record.specs.declared.record.Attribute.{Attribute}
 use Rattle.edi_record.specs.declared.record.End.{End}
 use Rattle.edi_record.proofs.AttributesRead.{set_none, set_stops, set_found, set_goes_on, attributes_end, attributes_here, attributes_skip}
@@ -17,7 +17,7 @@ attribute_in z behind = attribute z.value (first (values (codes "TEX") (before_f
 
 -- an FTP with the first SNS before the next FTP
 abbrev pub end_in : ZoneData → List ZoneData → Option End
-end_in z behind = end_of z.value (first (values (codes "SNS") (before_first points_at behind)))
+end_in z behind = end_with_sense z.value (first (values (codes "SNS") (before_first points_at behind)))
 
 pub before_yes : (p : ZoneData → Bool) (z : ZoneData) (zs : List ZoneData) → p z ≡ true → before_first p (z ∷ zs) ≡ []
 before_yes p z zs e = rw e refl
@@ -88,6 +88,6 @@ sns_in (z ∷ zs) = go (points_at z) refl (has_code (codes "SNS") z) refl (sns_i
 pub ends_made : IsMadeBy points_at end_in ends
 ends_made = record {
   none = ends_end;
-  here = λ z zs e. ends_here z zs e ∙ ap (λ t. end_of z.value t ∷ ends zs) (sns_in zs);
+  here = λ z zs e. ends_here z zs e ∙ ap (λ t. end_with_sense z.value t ∷ ends zs) (sns_in zs);
   skip = ends_skip;
 }

@@ -11,9 +11,9 @@ use Rattle.edi_line.specs.inner.Refusal.{first_broken}
 use Rattle.edi_line.proofs.FirstBroken.{none_broken, first_is_least}
 use Rattle.edi_line.proofs.Rules.{AreApart, two_cuts}
 use Rattle.edi_record.specs.Shapes.{is_in_shape}
-use Rattle.edi_record.specs.inner.Records.{ReadsAs}
+use Rattle.edi_record.specs.inner.Records.{ReadsAsRecord}
 use Rattle.edi_record.specs.inner.RecordRules.{record_tests, FailsTest}
-use Rattle.edi_record.specs.inner.Lists.{IsSound, IsListOf, IsRefused, IsMadeOf}
+use Rattle.edi_record.specs.inner.Lists.{IsSound, IsListOfGroups, IsFirstBroken, IsMadeOfGroups}
 use Rattle.edi_record.specs.RecordRefusal.{IsRecordRefusal}
 use Rattle.edi_record.specs.RecordRules.{BreaksRecordRule}
 use Rattle.edi_record.proofs.RulesSaid.{records_unbroken, refusal_said}
@@ -30,20 +30,20 @@ use Rattle.edi_record.specs.declared.record.Record.{Record}
 pub record SoFar (zones rest : List ZoneData) (list : List Record) : Type 0 where
   pub done : List (List ZoneData)
   pub cut : groups_of zones ≡ done ++ groups_of rest
-  pub states : AllZip ReadsAs done list
+  pub states : AllZip ReadsAsRecord done list
   pub sound : AllByRecursion IsSound done
   pub shape : list_all is_in_shape list ≡ true
 
 pub none_done : (zones : List ZoneData) → SoFar zones zones []
 none_done zones = record { done = []; cut = refl; states = tt; sound = tt; shape = refl }
 
-pub zip_push : (gs : List (List ZoneData)) (rs : List Record) (g : List ZoneData) (r : Record) → AllZip ReadsAs gs rs → ReadsAs g r → AllZip ReadsAs (gs ++ g ∷ []) (rs ++ r ∷ [])
+pub zip_push : (gs : List (List ZoneData)) (rs : List Record) (g : List ZoneData) (r : Record) → AllZip ReadsAsRecord gs rs → ReadsAsRecord g r → AllZip ReadsAsRecord (gs ++ g ∷ []) (rs ++ r ∷ [])
 zip_push [] [] g r h k = (k, tt)
 zip_push [] (y ∷ rs) g r h k = absurd h
 zip_push (x ∷ gs) [] g r h k = absurd h
 zip_push (x ∷ gs) (y ∷ rs) g r h k = (h.0, zip_push gs rs g r h.1 k)
 
-pub zip_length : (gs : List (List ZoneData)) (rs : List Record) → AllZip ReadsAs gs rs → length gs ≡ length rs
+pub zip_length : (gs : List (List ZoneData)) (rs : List Record) → AllZip ReadsAsRecord gs rs → length gs ≡ length rs
 zip_length [] [] h = refl
 zip_length [] (y ∷ rs) h = absurd h
 zip_length (x ∷ gs) [] h = absurd h
@@ -65,7 +65,7 @@ pub no_group_here : (z : ZoneData) (zs : List ZoneData) → begins_group z ≡ f
 no_group_here z zs e = rw e refl
 
 pub one_more : (zones rest : List ZoneData) (list new : List Record) (z : ZoneData) (zs : List ZoneData) (r : Record) → SoFar zones rest list → rest ≡ z ∷ zs → begins_group z ≡ true
-    → ReadsAs (z ∷ before_end zs) r → is_in_shape r ≡ true → IsSound (z ∷ before_end zs) → new ≡ list ++ r ∷ [] → SoFar zones zs new
+    → ReadsAsRecord (z ∷ before_end zs) r → is_in_shape r ≡ true → IsSound (z ∷ before_end zs) → new ≡ list ++ r ∷ [] → SoFar zones zs new
 one_more zones rest list new z zs r h e b states shape sound pushed =
     let group = z ∷ before_end zs in
     subst (λ l. SoFar zones zs l) (sym pushed) (record {
@@ -94,8 +94,8 @@ moved zones rest left list h e = record { done = h.done; cut = h.cut ∙ ap (λ 
 all_cut : (zones rest : List ZoneData) (list : List Record) (h : SoFar zones rest list) → rest ≡ [] → groups_of zones ≡ h.done
 all_cut zones rest list h e = h.cut ∙ ap (λ t. h.done ++ groups_of t) e ∙ append-nil h.done
 
-pub all_stated : (zones rest : List ZoneData) (list : List Record) → SoFar zones rest list → rest ≡ [] → AllZip ReadsAs (groups_of zones) list
-all_stated zones rest list h e = subst (λ gs. AllZip ReadsAs gs list) (sym (all_cut zones rest list h e)) h.states
+pub all_stated : (zones rest : List ZoneData) (list : List Record) → SoFar zones rest list → rest ≡ [] → AllZip ReadsAsRecord (groups_of zones) list
+all_stated zones rest list h e = subst (λ gs. AllZip ReadsAsRecord gs list) (sym (all_cut zones rest list h e)) h.states
 
 in_front : (gs : List (List ZoneData)) (g : List ZoneData) (more : List (List ZoneData)) → AllByRecursion IsSound (gs ++ g ∷ more) → IsSound g
 in_front [] g more h = h.0
@@ -110,7 +110,7 @@ all_unbroken zones rest list h e rule place b = sound_unbroken h.done h.sound b.
 -- ---- a group that breaks a rule
 
 -- the first group that breaks a rule
-pub least_of : (zones : List ZoneData) (rule place : ℕ) → IsRefused (groups_of zones) rule place → IsLeastBroken (FailsTest zones) rule place
+pub least_of : (zones : List ZoneData) (rule place : ℕ) → IsFirstBroken (groups_of zones) rule place → IsLeastBroken (FailsTest zones) rule place
 least_of zones rule place h =
     let found = first_is_least (record_tests h.group) rule refl h.broken in
     record {
@@ -166,15 +166,15 @@ groups_few (z ∷ zs) = go (begins_group (entry z)) refl (groups_few zs)
 -- ---- groups one after the other
 
 -- a group that states the next record
-pub list_more : (groups : List (List ZoneData)) (list new : List Record) (group : List ZoneData) (r : Record) → IsListOf groups list → ReadsAs group r → is_in_shape r ≡ true → IsSound group → new ≡ list ++ r ∷ [] → IsListOf (groups ++ group ∷ []) new
-list_more groups list new group r h states shape sound pushed = subst (IsListOf (groups ++ group ∷ [])) (sym pushed) (record {
+pub list_more : (groups : List (List ZoneData)) (list new : List Record) (group : List ZoneData) (r : Record) → IsListOfGroups groups list → ReadsAsRecord group r → is_in_shape r ≡ true → IsSound group → new ≡ list ++ r ∷ [] → IsListOfGroups (groups ++ group ∷ []) new
+list_more groups list new group r h states shape sound pushed = subst (IsListOfGroups (groups ++ group ∷ [])) (sym pushed) (record {
   states = zip_push groups list group r h.states states;
   sound = sound_push groups group h.sound sound;
   shape = shape_push list r h.shape shape;
 })
 
 -- a group that breaks a rule
-pub list_refused : (groups : List (List ZoneData)) (list : List Record) (group : List ZoneData) (rule place : ℕ) → IsListOf groups list → first_broken (record_tests group) ≡ Some rule → place ≡ length list + 1 → IsRefused (groups ++ group ∷ []) rule place
+pub list_refused : (groups : List (List ZoneData)) (list : List Record) (group : List ZoneData) (rule place : ℕ) → IsListOfGroups groups list → first_broken (record_tests group) ≡ Some rule → place ≡ length list + 1 → IsFirstBroken (groups ++ group ∷ []) rule place
 list_refused groups list group rule place h broken place_is = record {
   before = groups;
   group = group;
@@ -189,7 +189,7 @@ pub rule_of_fault : (zones group : List ZoneData) (fault : GroupFault) (rule : �
 rule_of_fault zones group fault rule same is h = subst (λ g. first_broken (record_tests g) ≡ Some rule) same (subst (IsGroupRefusal zones) is h)
 
 -- what comes behind a broken rule changes nothing
-made_still : (groups : List (List ZoneData)) (group : List ZoneData) (list : List Record) (fault : RecordFault) → IsMadeOf groups list (Some fault) → IsMadeOf (groups ++ group ∷ []) list (Some fault)
+made_still : (groups : List (List ZoneData)) (group : List ZoneData) (list : List Record) (fault : RecordFault) → IsMadeOfGroups groups list (Some fault) → IsMadeOfGroups (groups ++ group ∷ []) list (Some fault)
 made_still groups group list (Memory e) h = tt
 made_still groups group list (Broken rule at) h = record {
   before = h.before;
@@ -201,16 +201,16 @@ made_still groups group list (Broken rule at) h = record {
   place_is = h.place_is;
 }
 
-pub made_past : (groups : List (List ZoneData)) (group : List ZoneData) (list : List Record) (fault : Option RecordFault) → is_some fault ≡ true → IsMadeOf groups list fault → IsMadeOf (groups ++ group ∷ []) list fault
+pub made_past : (groups : List (List ZoneData)) (group : List ZoneData) (list : List Record) (fault : Option RecordFault) → is_some fault ≡ true → IsMadeOfGroups groups list fault → IsMadeOfGroups (groups ++ group ∷ []) list fault
 made_past groups group list None e h = absurd (cc)
 made_past groups group list (Some fault) e h = made_still groups group list fault h
 
 -- no rule is broken so far
-pub made_list : (groups : List (List ZoneData)) (list : List Record) (fault : Option RecordFault) → is_some fault ≡ false → IsMadeOf groups list fault → IsListOf groups list
+pub made_list : (groups : List (List ZoneData)) (list : List Record) (fault : Option RecordFault) → is_some fault ≡ false → IsMadeOfGroups groups list fault → IsListOfGroups groups list
 made_list groups list None e h = h
 made_list groups list (Some fault) e h = absurd (cc)
 
-pub made_more : (groups : List (List ZoneData)) (list : List Record) (fault : Option RecordFault) → is_some fault ≡ false → IsListOf groups list → IsMadeOf groups list fault
+pub made_more : (groups : List (List ZoneData)) (list : List Record) (fault : Option RecordFault) → is_some fault ≡ false → IsListOfGroups groups list → IsMadeOfGroups groups list fault
 made_more groups list None e h = h
 made_more groups list (Some fault) e h = absurd (cc)
 
@@ -229,21 +229,21 @@ one_record group z zs h e =
 -- ---- the sheet of a file
 
 pub made_of_file : (bytes : List ℕ) (charset : Option (List ℕ)) (first list : List Record) (fault found : Option RecordFault) (Before After : List (List ZoneData) → Type 0)
-    (h : IsHandedOut bytes charset (λ groups. IsMadeOf groups first None × Before groups) (λ groups. IsMadeOf groups list fault × After groups)) → first ≡ [] → Before [] → fault ≡ found
-    → IsMadeOf (groups_of h.zones) list found × After (groups_of h.zones)
+    (h : IsHandedOut bytes charset (λ groups. IsMadeOfGroups groups first None × Before groups) (λ groups. IsMadeOfGroups groups list fault × After groups)) → first ≡ [] → Before [] → fault ≡ found
+    → IsMadeOfGroups (groups_of h.zones) list found × After (groups_of h.zones)
 made_of_file bytes charset first list fault found Before After h none before is =
-    let both = h.handed [] (subst (IsListOf []) (sym none) (record { states = tt; sound = tt; shape = refl }), before) in
-    (subst (IsMadeOf (groups_of h.zones) list) is both.0, both.1)
+    let both = h.handed [] (subst (IsListOfGroups []) (sym none) (record { states = tt; sound = tt; shape = refl }), before) in
+    (subst (IsMadeOfGroups (groups_of h.zones) list) is both.0, both.1)
 
-pub file_unbroken : (zones : List ZoneData) (list : List Record) → IsListOf (groups_of zones) list → IsUnbroken (BreaksRecordRule zones)
+pub file_unbroken : (zones : List ZoneData) (list : List Record) → IsListOfGroups (groups_of zones) list → IsUnbroken (BreaksRecordRule zones)
 file_unbroken zones list h = records_unbroken zones (λ rule place b. sound_unbroken (groups_of zones) h.sound b.before b.group b.after rule b.cut b.breaks)
 
-made_refusal : (zones : List ZoneData) (list : List Record) (fault : RecordFault) → IsMadeOf (groups_of zones) list (Some fault) → IsRecordRefusal (FailsTest zones) fault
+made_refusal : (zones : List ZoneData) (list : List Record) (fault : RecordFault) → IsMadeOfGroups (groups_of zones) list (Some fault) → IsRecordRefusal (FailsTest zones) fault
 made_refusal zones list (Memory e) h = tt
 made_refusal zones list (Broken rule at) h = least_of zones rule at h
 
-pub file_refusal : (zones : List ZoneData) (list : List Record) (fault : RecordFault) → IsMadeOf (groups_of zones) list (Some fault) → IsRecordRefusal (BreaksRecordRule zones) fault
+pub file_refusal : (zones : List ZoneData) (list : List Record) (fault : RecordFault) → IsMadeOfGroups (groups_of zones) list (Some fault) → IsRecordRefusal (BreaksRecordRule zones) fault
 file_refusal zones list fault h = refusal_said zones fault (made_refusal zones list fault h)
 
-pub made_few : (groups : List (List ZoneData)) (list : List Record) → IsListOf groups list → length groups ≤ 9999999 → length list ≤ 9999999
+pub made_few : (groups : List (List ZoneData)) (list : List Record) → IsListOfGroups groups list → length groups ≤ 9999999 → length list ≤ 9999999
 made_few groups list h few = let count = zip_length groups list h.states in omega (arith, count, few)

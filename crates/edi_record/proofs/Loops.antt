@@ -13,7 +13,7 @@ use Rattle.std.specs.Str.Parse.{digits_value, digits_value_after}
 use Rattle.edi_line.specs.ZoneData.{ZoneData, entry, entries, has_code}
 use Rattle.edi_line.specs.declared.zone.Zone.{Zone}
 use Rattle.edi_record.specs.Records.{opens, closes, points_at}
-use Rattle.edi_record.specs.inner.Records.{sns_after, end_of, ends, placed, is_open_after, is_extra, extra}
+use Rattle.edi_record.specs.inner.Records.{sns_after, end_with_sense, ends, zones_placed, is_open_after, is_extra, extra}
 use Rattle.edi_record.specs.Texts.{PointerText}
 use Rattle.edi_record.specs.inner.Texts.{pointer, count}
 use Rattle.edi_record.specs.inner.RecordRules.{kind_in, is_unknown_pointer, has_unknown_pointer, counts_right}
@@ -40,38 +40,38 @@ no_zone zs i past = ap entries (drop_of_length-le zs past)
 opens_apart : (z : ZoneData) → opens z ≡ true → closes z ≡ false
 opens_apart z e = let same : z.code ≡ codes "ATP" = (bytes_eq-Decides z.code (codes "ATP")).0 e in rw same refl
 
-pub stray_opens : (b : Bool) (z : ZoneData) (zs : List ZoneData) → opens z ≡ true → list_any is_stray (placed b (z ∷ zs)) ≡ list_any is_stray (placed true zs)
-unfolding placed
+pub stray_opens : (b : Bool) (z : ZoneData) (zs : List ZoneData) → opens z ≡ true → list_any is_stray (zones_placed b (z ∷ zs)) ≡ list_any is_stray (zones_placed true zs)
+unfolding zones_placed
 stray_opens b z zs e = rw (opens_apart z e, e) refl
 
-pub stray_here : (b : Bool) (z : ZoneData) (zs : List ZoneData) → closes z ≡ true → b ≡ false → list_any is_stray (placed b (z ∷ zs)) ≡ true
-unfolding placed
+pub stray_here : (b : Bool) (z : ZoneData) (zs : List ZoneData) → closes z ≡ true → b ≡ false → list_any is_stray (zones_placed b (z ∷ zs)) ≡ true
+unfolding zones_placed
 stray_here b z zs e f = rw (e, f) refl
 
-pub stray_closes : (b : Bool) (z : ZoneData) (zs : List ZoneData) → opens z ≡ false → closes z ≡ true → b ≡ true → list_any is_stray (placed b (z ∷ zs)) ≡ list_any is_stray (placed false zs)
-unfolding placed
+pub stray_closes : (b : Bool) (z : ZoneData) (zs : List ZoneData) → opens z ≡ false → closes z ≡ true → b ≡ true → list_any is_stray (zones_placed b (z ∷ zs)) ≡ list_any is_stray (zones_placed false zs)
+unfolding zones_placed
 stray_closes b z zs e f g = rw (e, f, g) refl
 
-pub stray_skips : (b : Bool) (z : ZoneData) (zs : List ZoneData) → opens z ≡ false → closes z ≡ false → list_any is_stray (placed b (z ∷ zs)) ≡ list_any is_stray (placed b zs)
-unfolding placed
+pub stray_skips : (b : Bool) (z : ZoneData) (zs : List ZoneData) → opens z ≡ false → closes z ≡ false → list_any is_stray (zones_placed b (z ∷ zs)) ≡ list_any is_stray (zones_placed b zs)
+unfolding zones_placed
 stray_skips b z zs e f = rw (e, f) refl
 
-pub stray_end : (b : Bool) → list_any is_stray (placed b []) ≡ false
-unfolding placed
+pub stray_end : (b : Bool) → list_any is_stray (zones_placed b []) ≡ false
+unfolding zones_placed
 stray_end b = refl
 
 -- ---- extras
 
 pub extras_none : (kind : Kind) (b : Bool) → extras_after kind b [] ≡ []
-unfolding placed
+unfolding zones_placed
 extras_none kind b = refl
 
 pub extras_here : (kind : Kind) (b : Bool) (z : ZoneData) (zs : List ZoneData) → is_extra kind (record { open_before = b; zone = z }) ≡ true → extras_after kind b (z ∷ zs) ≡ extra z ∷ extras_after kind (is_open_after b z) zs
-unfolding placed
+unfolding zones_placed
 extras_here kind b z zs e = rw e refl
 
 pub extras_skip : (kind : Kind) (b : Bool) (z : ZoneData) (zs : List ZoneData) → is_extra kind (record { open_before = b; zone = z }) ≡ false → extras_after kind b (z ∷ zs) ≡ extras_after kind (is_open_after b z) zs
-unfolding placed
+unfolding zones_placed
 extras_skip kind b z zs e = rw e refl
 
 pub extras_grow : (all found more : List Extra) (done new : List Extra) (x : Extra) → all ≡ done ++ found → found ≡ x ∷ more → new ≡ done ++ x ∷ [] → all ≡ new ++ more
@@ -108,7 +108,7 @@ pub ends_skip : (z : ZoneData) (zs : List ZoneData) → points_at z ≡ false �
 unfolding ends
 ends_skip z zs e = rw e refl
 
-pub ends_here : (z : ZoneData) (zs : List ZoneData) → points_at z ≡ true → ends (z ∷ zs) ≡ end_of z.value (sns_after zs) ∷ ends zs
+pub ends_here : (z : ZoneData) (zs : List ZoneData) → points_at z ≡ true → ends (z ∷ zs) ≡ end_with_sense z.value (sns_after zs) ∷ ends zs
 unfolding ends
 ends_here z zs e = rw e refl
 
@@ -195,18 +195,18 @@ says_none text n e is empty =
 
 -- ---- pointers that aren't known
 
-pub unknown_none : (kind : Kind) (b : Bool) → list_any (is_unknown_pointer kind) (placed b []) ≡ false
-unfolding placed
+pub unknown_none : (kind : Kind) (b : Bool) → list_any (is_unknown_pointer kind) (zones_placed b []) ≡ false
+unfolding zones_placed
 unknown_none kind b = refl
 
-pub unknown_here : (kind : Kind) (b : Bool) (z : ZoneData) (zs : List ZoneData) → is_unknown_pointer kind (record { open_before = b; zone = z }) ≡ true → list_any (is_unknown_pointer kind) (placed b (z ∷ zs)) ≡ true
-unfolding placed
+pub unknown_here : (kind : Kind) (b : Bool) (z : ZoneData) (zs : List ZoneData) → is_unknown_pointer kind (record { open_before = b; zone = z }) ≡ true → list_any (is_unknown_pointer kind) (zones_placed b (z ∷ zs)) ≡ true
+unfolding zones_placed
 unknown_here kind b z zs e = rw e refl
 
 pub unknown_skip : (kind : Kind) (b : Bool) (z : ZoneData) (zs : List ZoneData) → is_unknown_pointer kind (record { open_before = b; zone = z }) ≡ false
-    → list_any (is_unknown_pointer kind) (placed b (z ∷ zs)) ≡ list_any (is_unknown_pointer kind) (placed (is_open_after b z) zs)
-unfolding placed
+    → list_any (is_unknown_pointer kind) (zones_placed b (z ∷ zs)) ≡ list_any (is_unknown_pointer kind) (zones_placed (is_open_after b z) zs)
+unfolding zones_placed
 unknown_skip kind b z zs e = rw e refl
 
-pub unknown_in : (kind : Kind) (group : List ZoneData) → kind_in group ≡ Some kind → has_unknown_pointer group ≡ list_any (is_unknown_pointer kind) (placed false group)
+pub unknown_in : (kind : Kind) (group : List ZoneData) → kind_in group ≡ Some kind → has_unknown_pointer group ≡ list_any (is_unknown_pointer kind) (zones_placed false group)
 unknown_in kind group e = rw e refl

@@ -4,9 +4,9 @@ use Rattle.std.specs.List.{AllByRecursion, AllZip}
 use Rattle.edi_line.specs.ZoneData.{ZoneData, has_code}
 use Rattle.edi_line.specs.Zones.{begins_group, ends_group, before_end, groups_of}
 use Rattle.edi_line.specs.Printing.{at_line, lines_of_zone, line_numbered}
-use Rattle.edi_record.specs.inner.Texts.{point, class_of}
+use Rattle.edi_record.specs.inner.Texts.{point_in, class_of}
 use Rattle.edi_record.specs.Records.{values, has_points, is_link}
-use Rattle.edi_record.specs.inner.Records.{set_after, value_after, attributes, sns_after, ends, Placed, is_open_after, placed, is_extra, extra, ReadsAs}
+use Rattle.edi_record.specs.inner.Records.{set_after, value_after, attributes, sns_after, ends, Placed, is_open_after, zones_placed, is_extra, extra, ReadsAsRecord}
 use Rattle.edi_record.specs.declared.record.Kind.{Kind}
 use Rattle.edi_record.specs.declared.record.Record.{Record}
 
@@ -56,18 +56,18 @@ extra_kept : (test : Bool) (b : Bool) (n : ℕ) (z : ZoneData) (xs ys : List Pla
 extra_kept true b n z xs ys e = ap (λ t. extra z ∷ t) e
 extra_kept false b n z xs ys e = e
 
-same_extras : (kind : Kind) (b : Bool) (n : ℕ) (zs : List ZoneData) → map (λ (p : Placed). extra p.zone) (filter (is_extra kind) (placed b (line_numbered n zs))) ≡ map (λ (p : Placed). extra p.zone) (filter (is_extra kind) (placed b zs))
-unfolding placed
+same_extras : (kind : Kind) (b : Bool) (n : ℕ) (zs : List ZoneData) → map (λ (p : Placed). extra p.zone) (filter (is_extra kind) (zones_placed b (line_numbered n zs))) ≡ map (λ (p : Placed). extra p.zone) (filter (is_extra kind) (zones_placed b zs))
+unfolding zones_placed
 same_extras kind b n [] = refl
 same_extras kind b n (z ∷ zs) =
-    extra_kept (is_extra kind (place_made b z)) b n z (filter (is_extra kind) (placed (is_open_after b z) (line_numbered (after n z) zs))) (filter (is_extra kind) (placed (is_open_after b z) zs)) (same_extras kind (is_open_after b z) (after n z) zs)
+    extra_kept (is_extra kind (place_made b z)) b n z (filter (is_extra kind) (zones_placed (is_open_after b z) (line_numbered (after n z) zs))) (filter (is_extra kind) (zones_placed (is_open_after b z) zs)) (same_extras kind (is_open_after b z) (after n z) zs)
 
-pub numbered_states : (n : ℕ) (zs : List ZoneData) (r : Record) → ReadsAs zs r → ReadsAs (line_numbered n zs) r
+pub numbered_states : (n : ℕ) (zs : List ZoneData) (r : Record) → ReadsAsRecord zs r → ReadsAsRecord (line_numbered n zs) r
 numbered_states n zs r h = record {
   type = same_values (codes "RTY") n zs ∙ h.type;
   rid = same_values (codes "RID") n zs ∙ h.rid;
   scp = ap (map class_of) (same_values (codes "SCP") n zs) ∙ h.scp;
-  points = ap (λ t. cond (has_points r.kind) (map point t) []) (same_values (codes "COR") n zs) ∙ h.points;
+  points = ap (λ t. cond (has_points r.kind) (map point_in t) []) (same_values (codes "COR") n zs) ∙ h.points;
   ends = ap (λ t. cond (is_link r.kind) t []) (same_ends n zs) ∙ h.ends;
   attributes = same_attributes n zs ∙ h.attributes;
   extras = same_extras r.kind false n zs ∙ h.extras;
@@ -117,9 +117,9 @@ cut_group n zs rest c end =
 
 -- the groups of printed records are theirs
 pub groups_state : (zones : Record → List ZoneData) (said : Record → Record) (rs : List Record) (n : ℕ) (tail : ZoneData)
-    → AllByRecursion (λ r. IsCut (zones r) × ReadsAs (zones r) (said r)) rs → begins_group tail ≡ false → ends_group tail ≡ true
-    → (before_end (line_numbered n (flat_map zones rs ++ tail ∷ [])) ≡ []) × AllZip ReadsAs (groups_of (line_numbered n (flat_map zones rs ++ tail ∷ []))) (map said rs)
-groups_state zones said [] n tail h apart end = (rw end refl, subst (λ gs. AllZip ReadsAs gs []) (sym (none n tail apart)) tt)
+    → AllByRecursion (λ r. IsCut (zones r) × ReadsAsRecord (zones r) (said r)) rs → begins_group tail ≡ false → ends_group tail ≡ true
+    → (before_end (line_numbered n (flat_map zones rs ++ tail ∷ [])) ≡ []) × AllZip ReadsAsRecord (groups_of (line_numbered n (flat_map zones rs ++ tail ∷ []))) (map said rs)
+groups_state zones said [] n tail h apart end = (rw end refl, subst (λ gs. AllZip ReadsAsRecord gs []) (sym (none n tail apart)) tt)
   where
     none : (n : ℕ) (tail : ZoneData) → begins_group tail ≡ false → groups_of (line_numbered n (tail ∷ [])) ≡ []
     none n tail apart = rw apart refl
@@ -129,6 +129,6 @@ groups_state zones said (r ∷ rs) n tail h apart end =
     let whole : line_numbered n (flat_map zones (r ∷ rs) ++ tail ∷ []) ≡ line_numbered n (zones r) ++ rest =
     ap (line_numbered n) (append_assoc (zones r) (flat_map zones rs) (tail ∷ [])) ∙ numbered_append n (zones r) (flat_map zones rs ++ tail ∷ []) in (
       ap before_end whole ∙ cut_ends n (zones r) rest h.0.0,
-      subst (λ gs. AllZip ReadsAs gs (map said (r ∷ rs))) (sym (ap groups_of whole ∙ cut_group n (zones r) rest h.0.0 more.0))
+      subst (λ gs. AllZip ReadsAsRecord gs (map said (r ∷ rs))) (sym (ap groups_of whole ∙ cut_group n (zones r) rest h.0.0 more.0))
           (numbered_states n (zones r) (said r) h.0.1, more.1),
     )

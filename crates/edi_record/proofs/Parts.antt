@@ -7,11 +7,11 @@ use Rattle.std.proofs.lemmas.List.{length-map}
 use Rattle.std.proofs.lemmas.Slice.Eq.{bytes_eq-Decides}
 use Rattle.edi_line.specs.ZoneData.{ZoneData, first}
 use Rattle.edi_record.specs.Texts.{PointerText}
-use Rattle.edi_record.specs.inner.Texts.{pointer, point}
+use Rattle.edi_record.specs.inner.Texts.{pointer, point_in}
 use Rattle.edi_record.specs.Shapes.{kind_code, may_have_points}
 use Rattle.edi_record.specs.Records.{values, has_points, is_link, opens, closes, points_at}
-use Rattle.edi_record.specs.inner.Records.{set_after, value_after, attribute, attributes, sns_after, end_of, ends, placed}
-use Rattle.edi_record.specs.inner.RecordRules.{kind_named, kind_in, repeats, some_no_pointer, has_bad_attribute, has_bad_point, has_bad_end}
+use Rattle.edi_record.specs.inner.Records.{set_after, value_after, attribute, attributes, sns_after, end_with_sense, ends, zones_placed}
+use Rattle.edi_record.specs.inner.RecordRules.{kind_named, kind_in, repeats_code, some_no_pointer, has_bad_attribute, has_bad_point, has_bad_end}
 use Rattle.edi_record.specs.declared.record.Kind.{Kind}
 use Rattle.edi_record.specs.declared.record.Kind.TheVariants.{Pno, Par, Pfe, Fea, Lnk}
 use Rattle.edi_record.specs.declared.record.Attribute.{Attribute}
@@ -59,27 +59,27 @@ attributes_count (z ∷ zs) = go (opens z) refl (attributes_count zs)
 pub bad_class : (g : List ZoneData) → list_any is_none (attributes g) ≡ true → has_bad_attribute g ≡ true
 bad_class g e = or_left _ _ (sym (attributes_lack g) ∙ e)
 
-pub good_attributes : (g : List ZoneData) (found : List Attribute) (stray more : Bool) → attributes g ≡ map Some found → stray ≡ list_any is_stray (placed false g) → stray ≡ false
-    → more ≡ repeats opens (λ z. opens z || closes z) (codes "TEX") g → more ≡ false → has_bad_attribute g ≡ false
+pub good_attributes : (g : List ZoneData) (found : List Attribute) (stray more : Bool) → attributes g ≡ map Some found → stray ≡ list_any is_stray (zones_placed false g) → stray ≡ false
+    → more ≡ repeats_code opens (λ z. opens z || closes z) (codes "TEX") g → more ≡ false → has_bad_attribute g ≡ false
 good_attributes g found stray more e s is_stray_not m is_more_not = or_from _ _ (sym (attributes_lack g) ∙ all_there (attributes g) found e) (or_from _ _ (sym s ∙ is_stray_not) (sym m ∙ is_more_not))
 
 -- ---- points
 
-places_lack : (vs : List (List ℕ)) → list_any is_none (map point vs) ≡ list_any (λ text. is_none (point text)) vs
+places_lack : (vs : List (List ℕ)) → list_any is_none (map point_in vs) ≡ list_any (λ text. is_none (point_in text)) vs
 places_lack [] = refl
-places_lack (v ∷ vs) = ap (λ b. is_none (point v) || b) (places_lack vs)
+places_lack (v ∷ vs) = ap (λ b. is_none (point_in v) || b) (places_lack vs)
 
-pub bad_place : (kind : Kind) (g : List ZoneData) → kind_in g ≡ Some kind → has_points kind ≡ true → list_any is_none (map point (values (codes "COR") g)) ≡ true → has_bad_point g ≡ true
+pub bad_place : (kind : Kind) (g : List ZoneData) → kind_in g ≡ Some kind → has_points kind ≡ true → list_any is_none (map point_in (values (codes "COR") g)) ≡ true → has_bad_point g ≡ true
 bad_place kind g k h e = rw (k, h) (or_left _ _ (sym (places_lack (values (codes "COR") g)) ∙ e))
 
-pub right_points : (kind : Kind) (g : List ZoneData) (ps : List Point) → kind_in g ≡ Some kind → has_points kind ≡ true → map point (values (codes "COR") g) ≡ map Some ps → may_have_points kind (length ps) ≡ true → has_bad_point g ≡ false
+pub right_points : (kind : Kind) (g : List ZoneData) (ps : List Point) → kind_in g ≡ Some kind → has_points kind ≡ true → map point_in (values (codes "COR") g) ≡ map Some ps → may_have_points kind (length ps) ≡ true → has_bad_point g ≡ false
 right_points kind g ps k h e shape = go kind k h shape
   where
     count : length (values (codes "COR") g) ≡ length ps
-    count = sym (length-map (values (codes "COR") g) point) ∙ same_length (map point (values (codes "COR") g)) ps e
+    count = sym (length-map (values (codes "COR") g) point_in) ∙ same_length (map point_in (values (codes "COR") g)) ps e
 
-    all : list_any (λ text. is_none (point text)) (values (codes "COR") g) ≡ false
-    all = sym (places_lack (values (codes "COR") g)) ∙ all_there (map point (values (codes "COR") g)) ps e
+    all : list_any (λ text. is_none (point_in text)) (values (codes "COR") g) ≡ false
+    all = sym (places_lack (values (codes "COR") g)) ∙ all_there (map point_in (values (codes "COR") g)) ps e
 
     go : (kind : Kind) → kind_in g ≡ Some kind → has_points kind ≡ true → may_have_points kind (length ps) ≡ true → has_bad_point g ≡ false
     go Pno k h s = rw (k, all, count, s) refl
@@ -92,28 +92,28 @@ or_true : (b : Bool) → (b || true) ≡ true
 or_true true = refl
 or_true false = refl
 
-pub wrong_number : (kind : Kind) (g : List ZoneData) (ps : List Point) → kind_in g ≡ Some kind → has_points kind ≡ true → map point (values (codes "COR") g) ≡ map Some ps → may_have_points kind (length ps) ≡ false → has_bad_point g ≡ true
+pub wrong_number : (kind : Kind) (g : List ZoneData) (ps : List Point) → kind_in g ≡ Some kind → has_points kind ≡ true → map point_in (values (codes "COR") g) ≡ map Some ps → may_have_points kind (length ps) ≡ false → has_bad_point g ≡ true
 wrong_number kind g ps k h e shape = go kind k h shape
   where
     count : length (values (codes "COR") g) ≡ length ps
-    count = sym (length-map (values (codes "COR") g) point) ∙ same_length (map point (values (codes "COR") g)) ps e
+    count = sym (length-map (values (codes "COR") g) point_in) ∙ same_length (map point_in (values (codes "COR") g)) ps e
 
     go : (kind : Kind) → kind_in g ≡ Some kind → has_points kind ≡ true → may_have_points kind (length ps) ≡ false → has_bad_point g ≡ true
-    go Pno k h s = rw (k, count, s) (or_true (list_any (λ text. is_none (point text)) (values (codes "COR") g)))
+    go Pno k h s = rw (k, count, s) (or_true (list_any (λ text. is_none (point_in text)) (values (codes "COR") g)))
     go Par k h s =
         let less = leb-false _ _ s in
         let few : ltb (length ps) 2 ≡ true = lt-ltb (length ps) 2 (omega (arith, less)) in
-        rw (k, count, few) (or_true (list_any (λ text. is_none (point text)) (values (codes "COR") g)))
+        rw (k, count, few) (or_true (list_any (λ text. is_none (point_in text)) (values (codes "COR") g)))
     go Pfe k h s = absurd cc
     go Fea k h s = absurd cc
     go Lnk k h s = absurd cc
 
 -- ---- ends
 
-no_end : (text : List ℕ) (sns : Option (List ℕ)) → is_none (end_of text sns) ≡ is_none (pointer text)
+no_end : (text : List ℕ) (sns : Option (List ℕ)) → is_none (end_with_sense text sns) ≡ is_none (pointer text)
 no_end text sns = go (pointer text) refl
   where
-    go : (p : Option PointerText) → pointer text ≡ p → is_none (end_of text sns) ≡ is_none (pointer text)
+    go : (p : Option PointerText) → pointer text ≡ p → is_none (end_with_sense text sns) ≡ is_none (pointer text)
     go (Some p) e = rw e refl
     go None e = rw e refl
 
@@ -136,7 +136,7 @@ ends_count (z ∷ zs) = go (points_at z) refl (ends_count zs)
     go false e more = rw e more
 
 pub link_end : (kind : Kind) (g : List ZoneData) → kind_in g ≡ Some kind → is_link kind ≡ true
-    → has_bad_end g ≡ (some_no_pointer (values (codes "FTP") g) || (ltb (length (values (codes "FTP") g)) 2 || (has_stray g || repeats points_at points_at (codes "SNS") g)))
+    → has_bad_end g ≡ (some_no_pointer (values (codes "FTP") g) || (ltb (length (values (codes "FTP") g)) 2 || (has_stray g || repeats_code points_at points_at (codes "SNS") g)))
 link_end kind g k h = rw (k, h) refl
 
 pub bad_target : (kind : Kind) (g : List ZoneData) → kind_in g ≡ Some kind → is_link kind ≡ true → list_any is_none (ends g) ≡ true → has_bad_end g ≡ true
@@ -147,11 +147,11 @@ few_ends kind g es k h e few =
     let count = sym (ends_count g) ∙ same_length (ends g) es e in
     link_end kind g k h ∙ or_right _ _ (or_left _ _ (lt-ltb (length (values (codes "FTP") g)) 2 (omega (arith, count, few))))
 
-pub bad_sns : (kind : Kind) (g : List ZoneData) (bad : Bool) → kind_in g ≡ Some kind → is_link kind ≡ true → bad ≡ (has_stray g || repeats points_at points_at (codes "SNS") g) → bad ≡ true → has_bad_end g ≡ true
+pub bad_sns : (kind : Kind) (g : List ZoneData) (bad : Bool) → kind_in g ≡ Some kind → is_link kind ≡ true → bad ≡ (has_stray g || repeats_code points_at points_at (codes "SNS") g) → bad ≡ true → has_bad_end g ≡ true
 bad_sns kind g bad k h e b = link_end kind g k h ∙ or_right _ _ (or_right _ _ (sym e ∙ b))
 
 pub good_ends : (kind : Kind) (g : List ZoneData) (es : List End) (bad : Bool) → kind_in g ≡ Some kind → is_link kind ≡ true → ends g ≡ map Some es → 2 ≤ length es
-    → bad ≡ (has_stray g || repeats points_at points_at (codes "SNS") g) → bad ≡ false → has_bad_end g ≡ false
+    → bad ≡ (has_stray g || repeats_code points_at points_at (codes "SNS") g) → bad ≡ false → has_bad_end g ≡ false
 good_ends kind g es bad k h e many s b =
     let count = sym (ends_count g) ∙ same_length (ends g) es e in
     link_end kind g k h ∙ or_from _ _ (sym (ends_lack g) ∙ all_there (ends g) es e) (or_from _ _ (le-ltb (length (values (codes "FTP") g)) 2 (omega (arith, count, many))) (sym s ∙ b))

@@ -10,18 +10,18 @@ use Rattle.edi_line.specs.inner.Number.{number}
 use Rattle.edi_line.proofs.NumberRead.{number_is}
 use Rattle.edi_record.specs.declared.record.Value.TheVariants.{Number, Bytes}
 use Rattle.edi_record.specs.Records.{values, IsValueOf}
-use Rattle.edi_record.specs.inner.Records.{ReadsAs, value_of}
+use Rattle.edi_record.specs.inner.Records.{ReadsAsRecord, value_of}
 use Rattle.edi_record.specs.declared.name.Name.{Name}
 use Rattle.edi_record.specs.declared.record.Record.{Record}
 use Rattle.edi_record.proofs.Unique.{kind_again}
 
-pub kind_is : (group : List ZoneData) (r : Record) → ReadsAs group r → kind_in group ≡ Some r.kind
+pub kind_is : (group : List ZoneData) (r : Record) → ReadsAsRecord group r → kind_in group ≡ Some r.kind
 kind_is group r h = ap (λ vs. option_and_then kind_named (first vs)) h.type ∙ kind_again r.kind
 
-pub has_kind : (group : List ZoneData) (r : Record) → ReadsAs group r → has_no_kind group ≡ false
+pub has_kind : (group : List ZoneData) (r : Record) → ReadsAsRecord group r → has_no_kind group ≡ false
 has_kind group r h = ap is_none (kind_is group r h)
 
-pub has_identifier : (group : List ZoneData) (r : Record) → ReadsAs group r → is_identifier r.rid ≡ true → has_no_identifier group ≡ false
+pub has_identifier : (group : List ZoneData) (r : Record) → ReadsAsRecord group r → is_identifier r.rid ≡ true → has_no_identifier group ≡ false
 has_identifier group r h form = ap (λ vs. not (just_one is_identifier vs)) h.rid ∙ rw form refl
 
 some_pointer : (text : List ℕ) (name : Name) → class_of text ≡ Some name → is_some (pointer text) ≡ true
@@ -36,7 +36,7 @@ one_pointer [] name e = absurd cc
 one_pointer (v ∷ []) name e = some_pointer v name cc
 one_pointer (v ∷ w ∷ vs) name e = absurd cc
 
-pub has_class : (group : List ZoneData) (r : Record) → ReadsAs group r → has_no_class group ≡ false
+pub has_class : (group : List ZoneData) (r : Record) → ReadsAsRecord group r → has_no_class group ≡ false
 has_class group r h = rw (one_pointer (values (codes "SCP") group) r.scp h.scp) refl
 
 -- ---- values

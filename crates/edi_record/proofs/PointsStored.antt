@@ -3,10 +3,10 @@ use Rattle.std.proofs.Common.{◌≡◌, Bool, true, false, ◌&&◌, eqb, ltb, 
 use Rattle.std.specs.List.{list_any}
 use Rattle.std.proofs.lemmas.List.{append-nil}
 use Rattle.edi_line.specs.ZoneData.{ZoneData, has_code}
-use Rattle.edi_record.specs.inner.Texts.{point}
+use Rattle.edi_record.specs.inner.Texts.{point_in}
 use Rattle.edi_record.specs.Shapes.{may_have_points}
 use Rattle.edi_record.specs.Records.{values, has_points}
-use Rattle.edi_record.specs.inner.Records.{placed, is_open_after, is_extra, extra, extras}
+use Rattle.edi_record.specs.inner.Records.{zones_placed, is_open_after, is_extra, extra, extras}
 use Rattle.edi_record.specs.inner.RecordRules.{kind_in, has_bad_point, is_unknown_pointer, has_unknown_pointer}
 use Rattle.edi_record.specs.inner.Stored.{StoresPoints, StoresExtras, TakesExtra, extras_after, KeptPoints, KeptExtras}
 use Rattle.edi_record.specs.declared.record.Kind.{Kind}
@@ -16,14 +16,14 @@ use Rattle.edi_record.proofs.Loops.{extras_none, extras_here, extras_skip, extra
 use Rattle.edi_record.proofs.Parts.{bad_place, right_points, wrong_number}
 
 abbrev places : List ZoneData → List (Option Point)
-places zs = map point (values (codes "COR") zs)
+places zs = map point_in (values (codes "COR") zs)
 
 -- ---- points
 
 pub points_pass : (a : KeptPoints) (z : ZoneData) (left group : List ZoneData) → has_code (codes "COR") z ≡ false → StoresPoints a (z ∷ left) group → StoresPoints a left group
 points_pass a z left group e h = record {
   broken = h.broken;
-  made = λ b. h.made b ∙ ap (λ vs. map Some a.list ++ map point vs) (value_skipped (codes "COR") z left e);
+  made = λ b. h.made b ∙ ap (λ vs. map Some a.list ++ map point_in vs) (value_skipped (codes "COR") z left e);
 }
 
 pub points_come : (a : KeptPoints) (group : List ZoneData) → a.is_broken ≡ false → StoresPoints a [] group → places group ≡ map Some a.list
@@ -60,7 +60,7 @@ pointer_met old new z pointed broken kind is_open left group e h = record {
   unknown = λ b. let wrong : true ≡ false = sym broken ∙ b in absurd (cc);
 }
   where
-    by_old : (b : Bool) → old.is_broken ≡ b → list_any (is_unknown_pointer kind) (placed false group) ≡ true
+    by_old : (b : Bool) → old.is_broken ≡ b → list_any (is_unknown_pointer kind) (zones_placed false group) ≡ true
     by_old true f = h.broken f
     by_old false f = h.unknown f ∙ unknown_here kind is_open z left (rw (e, pointed) refl)
 

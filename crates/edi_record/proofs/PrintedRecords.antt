@@ -13,12 +13,12 @@ use Rattle.edi_line.specs.ZoneData.{ZoneData, has_code}
 use Rattle.edi_line.specs.Refusal.{test}
 use Rattle.edi_line.specs.inner.Refusal.{first_broken}
 use Rattle.edi_line.specs.Printing.{zone_text}
-use Rattle.edi_record.specs.inner.Texts.{count, point}
+use Rattle.edi_record.specs.inner.Texts.{count, point_in}
 use Rattle.edi_record.specs.Shapes.{kind_code, may_have_ends}
 use Rattle.edi_record.specs.Records.{values, has_points, is_link, opens, closes, points_at}
-use Rattle.edi_record.specs.inner.Records.{attributes, ends, Placed, placed, is_extra, value_of, ReadsAs}
+use Rattle.edi_record.specs.inner.Records.{attributes, ends, Placed, zones_placed, is_extra, value_of, ReadsAsRecord}
 use Rattle.edi_record.specs.RecordRules.{has_no_identifier}
-use Rattle.edi_record.specs.inner.RecordRules.{kind_in, in_kind, is_arc, count_until, repeats, counts_right, counts_wrong, has_no_kind, has_no_class, has_bad_attribute, has_wrong_count, has_bad_point, has_bad_end, is_unknown_pointer, has_unknown_pointer, record_tests}
+use Rattle.edi_record.specs.inner.RecordRules.{kind_in, in_kind, is_arc_kind, count_until, repeats_code, counts_right, counts_wrong, has_no_kind, has_no_class, has_bad_attribute, has_wrong_count, has_bad_point, has_bad_end, is_unknown_pointer, has_unknown_pointer, record_tests}
 use Rattle.edi_record.specs.CanonicalZones.{class_text, value_text, point_zone, set_zone, extra_zone, end_text, sns_zone}
 use Rattle.edi_record.specs.RecordLayout.{Letters, zones_of_attribute, zones_of_end, zones_of_body, zones_of_record, IsExtra, IsRecord, settled, settled_end, settled_record, FollowsRules}
 use Rattle.edi_record.specs.declared.record.Kind.{Kind}
@@ -73,36 +73,36 @@ extras_apart kind xs h = mapped_each IsApart (IsExtra kind) extra_zone (extra_ap
 
 -- ---- 204
 
-stray_past : (b : Bool) (zs more : List ZoneData) → AllByRecursion IsApart zs → list_any is_stray (placed b (zs ++ more)) ≡ list_any is_stray (placed b more)
+stray_past : (b : Bool) (zs more : List ZoneData) → AllByRecursion IsApart zs → list_any is_stray (zones_placed b (zs ++ more)) ≡ list_any is_stray (zones_placed b more)
 stray_past b [] more h = refl
 stray_past b (z ∷ zs) more h = stray_skips b z (zs ++ more) h.0.0 h.0.1 ∙ stray_past b zs more h.1
 
-none_stray : (b : Bool) (zs : List ZoneData) → AllByRecursion IsApart zs → list_any is_stray (placed b zs) ≡ false
+none_stray : (b : Bool) (zs : List ZoneData) → AllByRecursion IsApart zs → list_any is_stray (zones_placed b zs) ≡ false
 none_stray b [] h = stray_end b
 none_stray b (z ∷ zs) h = stray_skips b z zs h.0.0 h.0.1 ∙ none_stray b zs h.1
 
-stray_attribute : (b : Bool) (s : Letters) (a : Attribute) (more : List ZoneData) → list_any is_stray (placed b (zones_of_attribute s a ++ more)) ≡ list_any is_stray (placed false more)
-unfolding placed zones_of_attribute
+stray_attribute : (b : Bool) (s : Letters) (a : Attribute) (more : List ZoneData) → list_any is_stray (zones_placed b (zones_of_attribute s a ++ more)) ≡ list_any is_stray (zones_placed false more)
+unfolding zones_placed zones_of_attribute
 stray_attribute b s a more = by_set a.tex
   where
-    by_set : (tex : Option (List ℕ)) → list_any is_stray (placed b ((zone_text (codes "ATP") 67 80 (class_text a.atp) ∷ map set_zone (option_to_list tex) ++ zone_text (codes "ATV") 83 (s.letter a.atp) (value_text (value_of (s.is_number a.atp) a.atv)) ∷ []) ++ more))
-        ≡ list_any is_stray (placed false more)
+    by_set : (tex : Option (List ℕ)) → list_any is_stray (zones_placed b ((zone_text (codes "ATP") 67 80 (class_text a.atp) ∷ map set_zone (option_to_list tex) ++ zone_text (codes "ATV") 83 (s.letter a.atp) (value_text (value_of (s.is_number a.atp) a.atv)) ∷ []) ++ more))
+        ≡ list_any is_stray (zones_placed false more)
     by_set None = refl
     by_set (Some text) = refl
 
-stray_attributes : (b : Bool) (s : Letters) (xs : List Attribute) (more : List ZoneData) → ((c : Bool) → list_any is_stray (placed c more) ≡ false) → list_any is_stray (placed b (flat_map (zones_of_attribute s) xs ++ more)) ≡ false
+stray_attributes : (b : Bool) (s : Letters) (xs : List Attribute) (more : List ZoneData) → ((c : Bool) → list_any is_stray (zones_placed c more) ≡ false) → list_any is_stray (zones_placed b (flat_map (zones_of_attribute s) xs ++ more)) ≡ false
 stray_attributes b s [] more k = k b
 stray_attributes b s (a ∷ xs) more k =
-    ap (λ zs. list_any is_stray (placed b zs)) (append_assoc (zones_of_attribute s a) (flat_map (zones_of_attribute s) xs) more)
+    ap (λ zs. list_any is_stray (zones_placed b zs)) (append_assoc (zones_of_attribute s a) (flat_map (zones_of_attribute s) xs) more)
     ∙ stray_attribute b s a (flat_map (zones_of_attribute s) xs ++ more) ∙ stray_attributes false s xs more k
 
-no_stray_value : (s : Letters) (r : Record) → IsRecord r → list_any is_stray (placed false (zones_of_record s r)) ≡ false
+no_stray_value : (s : Letters) (r : Record) → IsRecord r → list_any is_stray (zones_placed false (zones_of_record s r)) ≡ false
 no_stray_value s r h =
-    ap (λ zs. list_any is_stray (placed false zs)) (split s r) ∙ stray_past false (front s r) (rest s r) (front_apart s r)
+    ap (λ zs. list_any is_stray (zones_placed false zs)) (split s r) ∙ stray_past false (front s r) (rest s r) (front_apart s r)
     ∙ stray_attributes false s r.attributes (map extra_zone r.extras) (λ c. none_stray c (map extra_zone r.extras) (extras_apart r.kind r.extras h.extras))
 
 abbrev sets_repeat : List ZoneData → Bool
-sets_repeat zs = repeats opens (λ z. opens z || closes z) (codes "TEX") zs
+sets_repeat zs = repeats_code opens (λ z. opens z || closes z) (codes "TEX") zs
 
 sets_past : (zs more : List ZoneData) → AllByRecursion IsApart zs → sets_repeat (zs ++ more) ≡ sets_repeat more
 sets_past [] more h = refl
@@ -216,16 +216,16 @@ behind_none_ptc = record { atc = λ _. refl; atp = λ _. refl; tex = λ _. refl;
 behind_none_ftc : HoldsBehind (λ z. has_code (codes "FTC") z ≡ false)
 behind_none_ftc = record { atc = λ _. refl; atp = λ _. refl; tex = λ _. refl; atv = λ _ _. refl }
 
-point_count : (s : Letters) (r : Record) → ReadsAs (zones_of_record s r) (settled_record s r) → has_points r.kind ≡ true → length (values (codes "COR") (zones_of_record s r)) ≡ length r.points
-point_count s r h t = sym (length-map (values (codes "COR") (zones_of_record s r)) point) ∙ same_length (map point (values (codes "COR") (zones_of_record s r))) r.points (places s r h t)
+point_count : (s : Letters) (r : Record) → ReadsAsRecord (zones_of_record s r) (settled_record s r) → has_points r.kind ≡ true → length (values (codes "COR") (zones_of_record s r)) ≡ length r.points
+point_count s r h t = sym (length-map (values (codes "COR") (zones_of_record s r)) point_in) ∙ same_length (map point_in (values (codes "COR") (zones_of_record s r))) r.points (places s r h t)
   where
-    places : (s : Letters) (r : Record) → ReadsAs (zones_of_record s r) (settled_record s r) → has_points r.kind ≡ true → map point (values (codes "COR") (zones_of_record s r)) ≡ map Some r.points
-    places s r h t = sym (ap (λ b. cond b (map point (values (codes "COR") (zones_of_record s r))) []) t) ∙ h.points
+    places : (s : Letters) (r : Record) → ReadsAsRecord (zones_of_record s r) (settled_record s r) → has_points r.kind ≡ true → map point_in (values (codes "COR") (zones_of_record s r)) ≡ map Some r.points
+    places s r h t = sym (ap (λ b. cond b (map point_in (values (codes "COR") (zones_of_record s r))) []) t) ∙ h.points
 
-right_point_count : (s : Letters) (r : Record) → IsRecord r → FollowsRules r → (in_kind is_arc (zones_of_record s r) && counts_wrong (codes "PTC") (codes "COR") (zones_of_record s r)) ≡ false
+right_point_count : (s : Letters) (r : Record) → IsRecord r → FollowsRules r → (in_kind is_arc_kind (zones_of_record s r) && counts_wrong (codes "PTC") (codes "COR") (zones_of_record s r)) ≡ false
 right_point_count s r h k = go r.kind refl (kind_is (zones_of_record s r) (settled_record s r) (record_again s r h))
   where
-    go : (kind : Kind) → r.kind ≡ kind → kind_in (zones_of_record s r) ≡ Some r.kind → (in_kind is_arc (zones_of_record s r) && counts_wrong (codes "PTC") (codes "COR") (zones_of_record s r)) ≡ false
+    go : (kind : Kind) → r.kind ≡ kind → kind_in (zones_of_record s r) ≡ Some r.kind → (in_kind is_arc_kind (zones_of_record s r) && counts_wrong (codes "PTC") (codes "COR") (zones_of_record s r)) ≡ false
     go Par t named =
         let body : filter (has_code (codes "PTC")) (zones_of_body r.kind r.points r.ends) ≡ zone_text (codes "PTC") 83 78 (decimal (length r.points)) ∷ [] = rw t (ptc_found r.points r.ends) in
         let apart : (e : Extra) → IsExtra r.kind e → bytes_eq e.code (codes "PTC") ≡ false = λ e x. ptc_apart r.kind t e x in
@@ -244,7 +244,7 @@ right_point_count s r h k = go r.kind refl (kind_is (zones_of_record s r) (settl
     go Fea t named = rw (named, t) refl
     go Lnk t named = rw (named, t) refl
 
-end_count : (s : Letters) (r : Record) → ReadsAs (zones_of_record s r) (settled_record s r) → is_link r.kind ≡ true → length (values (codes "FTP") (zones_of_record s r)) ≡ length r.ends
+end_count : (s : Letters) (r : Record) → ReadsAsRecord (zones_of_record s r) (settled_record s r) → is_link r.kind ≡ true → length (values (codes "FTP") (zones_of_record s r)) ≡ length r.ends
 end_count s r h t = sym (ends_count (zones_of_record s r)) ∙ same_length (ends (zones_of_record s r)) (map settled_end r.ends) (sym (ap (λ b. cond b (ends (zones_of_record s r)) []) t) ∙ h.ends) ∙ length-map r.ends settled_end
 
 right_end_count : (s : Letters) (r : Record) → IsRecord r → FollowsRules r → (in_kind is_link (zones_of_record s r) && counts_wrong (codes "FTC") (codes "FTP") (zones_of_record s r)) ≡ false
@@ -274,11 +274,11 @@ right_end_count s r h k = go r.kind refl (kind_is (zones_of_record s r) (settled
 right_places : (s : Letters) (r : Record) → IsRecord r → FollowsRules r → has_bad_point (zones_of_record s r) ≡ false
 right_places s r h k = go (has_points r.kind) refl
   where
-    stated : ReadsAs (zones_of_record s r) (settled_record s r)
+    stated : ReadsAsRecord (zones_of_record s r) (settled_record s r)
     stated = record_again s r h
 
     go : (b : Bool) → has_points r.kind ≡ b → has_bad_point (zones_of_record s r) ≡ false
-    go true t = right_points r.kind (zones_of_record s r) r.points (kind_is (zones_of_record s r) (settled_record s r) (record_again s r h)) t (sym (ap (λ b. cond b (map point (values (codes "COR") (zones_of_record s r))) []) t) ∙ (record_again s r h).points) (and_parts _ _ k.shape).0
+    go true t = right_points r.kind (zones_of_record s r) r.points (kind_is (zones_of_record s r) (settled_record s r) (record_again s r h)) t (sym (ap (λ b. cond b (map point_in (values (codes "COR") (zones_of_record s r))) []) t) ∙ (record_again s r h).points) (and_parts _ _ k.shape).0
     go false t = no_points_wanted r.kind (zones_of_record s r) (kind_is (zones_of_record s r) (settled_record s r) (record_again s r h)) t
       where
         no_points_wanted : (kind : Kind) (g : List ZoneData) → kind_in g ≡ Some kind → has_points kind ≡ false → has_bad_point g ≡ false
@@ -299,7 +299,7 @@ no_sns_left [] h = refl
 no_sns_left (z ∷ zs) h = rw (h.0.0, h.0.1) (no_sns_left zs h.1)
 
 abbrev ends_repeat : List ZoneData → Bool
-ends_repeat zs = repeats points_at points_at (codes "SNS") zs
+ends_repeat zs = repeats_code points_at points_at (codes "SNS") zs
 
 ends_past : (zs more : List ZoneData) → AllByRecursion IsOther zs → ends_repeat (zs ++ more) ≡ ends_repeat more
 ends_past [] more h = refl
@@ -400,8 +400,8 @@ empty_pointer e h = go (eqb e.format 80) refl
     go true f = ap (λ t. ltb 0 (length t)) (h (eqb-true _ _ f))
     go false f = refl
 
-empty_pointers : (kind : Kind) (xs : List Extra) → AllByRecursion (IsExtra kind) xs → AllByRecursion (λ e. e.format ≡ 80 → value_text e.value ≡ []) xs → list_any is_full_pointer (filter (is_extra kind) (placed false (map extra_zone xs))) ≡ false
-unfolding placed
+empty_pointers : (kind : Kind) (xs : List Extra) → AllByRecursion (IsExtra kind) xs → AllByRecursion (λ e. e.format ≡ 80 → value_text e.value ≡ []) xs → list_any is_full_pointer (filter (is_extra kind) (zones_placed false (map extra_zone xs))) ≡ false
+unfolding zones_placed
 empty_pointers kind [] h k = refl
 empty_pointers kind (e ∷ xs) h k =
     let u = extra_apart kind e h.0 in
@@ -410,7 +410,7 @@ empty_pointers kind (e ∷ xs) h k =
 no_unknown_pointer : (s : Letters) (r : Record) → IsRecord r → FollowsRules r → has_unknown_pointer (zones_of_record s r) ≡ false
 no_unknown_pointer s r h k =
     rw (kind_is (zones_of_record s r) (settled_record s r) (record_again s r h))
-    (among_extras r.kind (placed false (zones_of_record s r)) ∙ ap (list_any is_full_pointer) (picked_extras s r h) ∙ empty_pointers r.kind r.extras h.extras k.pointers)
+    (among_extras r.kind (zones_placed false (zones_of_record s r)) ∙ ap (list_any is_full_pointer) (picked_extras s r h) ∙ empty_pointers r.kind r.extras h.extras k.pointers)
 
 -- ---- all of them
 

@@ -16,12 +16,12 @@ use Rattle.edi_line.proofs.ZonesFound.{zones_of}
 use Rattle.edi_line.proofs.Numbers.{number_in_range}
 use Rattle.edi_line.proofs.NumberRead.{number_is}
 use Rattle.edi_record.specs.Texts.{PointerText}
-use Rattle.edi_record.specs.inner.Texts.{parts, pointer_of, pointer, class_of, flat_place, high_place, point_of, point}
+use Rattle.edi_record.specs.inner.Texts.{parts, pointer_of, pointer, class_of, flat_place, high_place, point_of, point_in}
 use Rattle.edi_record.specs.Shapes.{may_have_points, may_have_ends}
 use Rattle.edi_record.specs.Records.{values, has_points, is_link, opens, closes, points_at, is_known, may_be_number, StatesSheet}
-use Rattle.edi_record.specs.inner.Records.{set_after, value_after, attribute, attributes, sns_after, end_of, ends, Placed, is_open_after, placed, is_extra, value_of, extra, ReadsAs}
+use Rattle.edi_record.specs.inner.Records.{set_after, value_after, attribute, attributes, sns_after, end_with_sense, ends, Placed, is_open_after, zones_placed, is_extra, value_of, extra, ReadsAsRecord}
 use Rattle.edi_record.specs.RecordRules.{BreaksRecordRule, just_one, is_identifier, has_no_identifier}
-use Rattle.edi_record.specs.inner.RecordRules.{kind_in, has_bad_point, has_bad_end, is_unknown_pointer, has_unknown_pointer, record_tests, repeats, some_no_pointer, FailsTest}
+use Rattle.edi_record.specs.inner.RecordRules.{kind_in, has_bad_point, has_bad_end, is_unknown_pointer, has_unknown_pointer, record_tests, repeats_code, some_no_pointer, FailsTest}
 use Rattle.edi_record.specs.CanonicalZones.{value_text}
 use Rattle.edi_record.specs.RecordLayout.{IsOwnValue, IsExtra, IsName, IsPoint, IsRecord, IsLineName, IsLineAttribute, IsLineValue, IsLineExtra, IsLineEnd, IsLineRecord, FollowsRules}
 use Rattle.edi_record.specs.Readable.{IsPrintableSheet}
@@ -134,8 +134,8 @@ point_by_parts (x ∷ y ∷ (a ∷ z) ∷ (b ∷ w) ∷ more) = tt
 point_by_parts (x ∷ y ∷ [] ∷ [] ∷ v ∷ more) = tt
 point_by_parts (x ∷ y ∷ (a ∷ z) ∷ [] ∷ v ∷ more) = tt
 
-point_read : (text : List ℕ) → IfSome (point text) IsPoint
-unfolding point
+point_read : (text : List ℕ) → IfSome (point_in text) IsPoint
+unfolding point_in
 point_read text = point_by_parts (parts text)
 
 -- ---- values of zones
@@ -225,7 +225,7 @@ sns_one_line (z ∷ zs) h = go (sns_one_line zs h.1) (points_at z) (has_code (co
     go more false true = h.0.one_line
     go more false false = more
 
-end_read : (text : List ℕ) (sns : Option (List ℕ)) → IsOneLine text → IfSome sns IsOneLine → IfSome (end_of text sns) IsReadEnd
+end_read : (text : List ℕ) (sns : Option (List ℕ)) → IsOneLine text → IfSome sns IsOneLine → IfSome (end_with_sense text sns) IsReadEnd
 end_read text sns h k = go (pointer text) (pointer_read text h)
   where
     go : (o : Option PointerText) → IfSome o NamesWell → IfSome (option_map (λ (p : PointerText). (let e : End = record { lot = p.lot; subset = p.subset; target = record { rty = p.rty; rid = p.rid }; sns = sns } in e)) o) IsReadEnd
@@ -237,7 +237,7 @@ unfolding ends
 ends_read [] h = tt
 ends_read (z ∷ zs) h = go (ends_read zs h.1) (points_at z)
   where
-    go : AllByRecursion (λ o. IfSome o IsReadEnd) (ends zs) → (b : Bool) → AllByRecursion (λ o. IfSome o IsReadEnd) (cond b (end_of z.value (sns_after zs) ∷ ends zs) (ends zs))
+    go : AllByRecursion (λ o. IfSome o IsReadEnd) (ends zs) → (b : Bool) → AllByRecursion (λ o. IfSome o IsReadEnd) (cond b (end_with_sense z.value (sns_after zs) ∷ ends zs) (ends zs))
     go more true = (end_read z.value (sns_after zs) h.0.one_line (sns_one_line zs h.1), more)
     go more false = more
 
@@ -277,13 +277,13 @@ extra_read kind before z h e =
 abbrev extras_in : List Placed → List Extra
 extras_in ps = map (λ (p : Placed). extra p.zone) ps
 
-extras_read : (kind : Kind) (before : Bool) (zs : List ZoneData) → AreGroupZones zs → AllByRecursion (IsReadExtra kind) (extras_in (filter (is_extra kind) (placed before zs)))
-unfolding placed
+extras_read : (kind : Kind) (before : Bool) (zs : List ZoneData) → AreGroupZones zs → AllByRecursion (IsReadExtra kind) (extras_in (filter (is_extra kind) (zones_placed before zs)))
+unfolding zones_placed
 extras_read kind before [] h = tt
 extras_read kind before (z ∷ zs) h = go (extras_read kind (is_open_after before z) zs h.1) (is_extra kind (place_made before z)) refl
   where
     more : List Placed
-    more = filter (is_extra kind) (placed (is_open_after before z) zs)
+    more = filter (is_extra kind) (zones_placed (is_open_after before z) zs)
 
     go : AllByRecursion (IsReadExtra kind) (extras_in more) → (b : Bool) → is_extra kind (place_made before z) ≡ b → AllByRecursion (IsReadExtra kind) (extras_in (cond b (place_made before z ∷ more) more))
     go rest true e = (extra_read kind before z h.0 e, rest)
@@ -319,7 +319,7 @@ not_false : (b : Bool) → not b ≡ false → b ≡ true
 not_false true e = refl
 not_false false e = cc
 
-identifier_read : (group : List ZoneData) (r : Record) → ReadsAs group r → IsKept group → is_identifier r.rid ≡ true
+identifier_read : (group : List ZoneData) (r : Record) → ReadsAsRecord group r → IsKept group → is_identifier r.rid ≡ true
 identifier_read group r h k = not_false (is_identifier r.rid) (sym (ap (λ vs. not (just_one is_identifier vs)) h.rid) ∙ identifier_kept group k)
 
 -- ---- points and ends where the kind has them
@@ -373,22 +373,22 @@ two_or_more n e = le-leb 2 n (ltb-false n 2 e)
 none_counted : {X : Type 0} (xs : List X) → [] ≡ map Some xs → eqb (length xs) 0 ≡ true
 none_counted xs e = ap (λ t. eqb (length t) 0) (none_of xs e)
 
-shape_read : (kind : Kind) (group : List ZoneData) (ps : List Point) (es : List End) → kind_in group ≡ Some kind → cond (has_points kind) (map point (values (codes "COR") group)) [] ≡ map Some ps
+shape_read : (kind : Kind) (group : List ZoneData) (ps : List Point) (es : List End) → kind_in group ≡ Some kind → cond (has_points kind) (map point_in (values (codes "COR") group)) [] ≡ map Some ps
     → cond (is_link kind) (ends group) [] ≡ map Some es → has_bad_point group ≡ false → has_bad_end group ≡ false → (may_have_points kind (length ps) && may_have_ends kind (length es)) ≡ true
 shape_read Pno group ps es k p e bad_point bad_end =
-    let count : length (values (codes "COR") group) ≡ length ps = sym (length-map (values (codes "COR") group) point) ∙ same_length (map point (values (codes "COR") group)) ps p in
-    let one = node_one (list_any (λ text. is_none (point text)) (values (codes "COR") group)) (eqb (length (values (codes "COR") group)) 1) (rw k at bad_point) in
+    let count : length (values (codes "COR") group) ≡ length ps = sym (length-map (values (codes "COR") group) point_in) ∙ same_length (map point_in (values (codes "COR") group)) ps p in
+    let one = node_one (list_any (λ text. is_none (point_in text)) (values (codes "COR") group)) (eqb (length (values (codes "COR") group)) 1) (rw k at bad_point) in
     and_from (eqb (length ps) 1) (eqb (length es) 0) (ap (λ n. eqb n 1) (sym count) ∙ one) (none_counted es e)
 shape_read Par group ps es k p e bad_point bad_end =
-    let count : length (values (codes "COR") group) ≡ length ps = sym (length-map (values (codes "COR") group) point) ∙ same_length (map point (values (codes "COR") group)) ps p in
-    let two = (or_parts (list_any (λ text. is_none (point text)) (values (codes "COR") group)) (ltb (length (values (codes "COR") group)) 2) (rw k at bad_point)).1 in
+    let count : length (values (codes "COR") group) ≡ length ps = sym (length-map (values (codes "COR") group) point_in) ∙ same_length (map point_in (values (codes "COR") group)) ps p in
+    let two = (or_parts (list_any (λ text. is_none (point_in text)) (values (codes "COR") group)) (ltb (length (values (codes "COR") group)) 2) (rw k at bad_point)).1 in
     and_from (leb 2 (length ps)) (eqb (length es) 0) (two_or_more (length ps) (ap (λ n. ltb n 2) (sym count) ∙ two)) (none_counted es e)
 shape_read Pfe group ps es k p e bad_point bad_end = and_from (eqb (length ps) 0) (eqb (length es) 0) (none_counted ps p) (none_counted es e)
 shape_read Fea group ps es k p e bad_point bad_end = and_from (eqb (length ps) 0) (eqb (length es) 0) (none_counted ps p) (none_counted es e)
 shape_read Lnk group ps es k p e bad_point bad_end =
     let count : length (values (codes "FTP") group) ≡ length es = sym (ends_count group) ∙ same_length (ends group) es e in
     let two = link_two (some_no_pointer (values (codes "FTP") group)) (ltb (length (values (codes "FTP") group)) 2)
-    (list_any (has_code (codes "SNS")) (before_first points_at group) || repeats points_at points_at (codes "SNS") group) (rw k at bad_end) in
+    (list_any (has_code (codes "SNS")) (before_first points_at group) || repeats_code points_at points_at (codes "SNS") group) (rw k at bad_end) in
     and_from (eqb (length ps) 0) (leb 2 (length es)) (none_counted ps p) (two_or_more (length es) (ap (λ n. ltb n 2) (sym count) ∙ two))
 
 -- ---- extras with the format of a pointer are empty
@@ -435,27 +435,27 @@ record IsReadRecord (r : Record) : Type 0 where
   line : IsLineRecord r
   rules : FollowsRules r
 
-record_read : (group : List ZoneData) (r : Record) → AreGroupZones group → ReadsAs group r → length group < 2 ^ 64 → IsKept group → IsReadRecord r
+record_read : (group : List ZoneData) (r : Record) → AreGroupZones group → ReadsAsRecord group r → length group < 2 ^ 64 → IsKept group → IsReadRecord r
 record_read group r h s few kept =
     let lines = printables group h in
     let rid = subst (AllByRecursion IsOneLine) s.rid (values_one_line (has_code (codes "RID")) group lines) in
     let class = each_there IsReadName (map class_of (values (codes "SCP") group)) (r.scp ∷ []) (each_mapped IsReadName class_of class_read (values (codes "SCP") group) (values_one_line (has_code (codes "SCP")) group lines)) s.scp in
-    let places = each_mapped IsPoint point (λ text k. point_read text) (values (codes "COR") group) (values_one_line (has_code (codes "COR")) group lines) in
-    let points = each_there IsPoint (cond (has_points r.kind) (map point (values (codes "COR") group)) []) r.points (chosen_each (λ o. IfSome o IsPoint) (has_points r.kind) (map point (values (codes "COR") group)) places) s.points in
+    let places = each_mapped IsPoint point_in (λ text k. point_read text) (values (codes "COR") group) (values_one_line (has_code (codes "COR")) group lines) in
+    let points = each_there IsPoint (cond (has_points r.kind) (map point_in (values (codes "COR") group)) []) r.points (chosen_each (λ o. IfSome o IsPoint) (has_points r.kind) (map point_in (values (codes "COR") group)) places) s.points in
     let found_ends = end_parts r.ends (each_there IsReadEnd (cond (is_link r.kind) (ends group) []) r.ends (chosen_each (λ o. IfSome o IsReadEnd) (is_link r.kind) (ends group) (ends_read group lines)) s.ends) in
     let attrs = attribute_parts r.attributes (each_there IsReadAttribute (attributes group) r.attributes (attributes_read group lines) s.attributes) in
     let others = extra_parts r.kind r.extras (subst (AllByRecursion (IsReadExtra r.kind)) s.extras (extras_read r.kind false group h)) in
     let many_attributes : length r.attributes ≤ length group = (let n = few_attributes group in let same = same_length (attributes group) r.attributes s.attributes in omega (arith, n, same)) in
-    let many_points = few_chosen (has_points r.kind) (map point (values (codes "COR") group)) r.points (length group) s.points
-    (let n = few_values (codes "COR") group in let same = length-map (values (codes "COR") group) point in omega (arith, n, same)) in
+    let many_points = few_chosen (has_points r.kind) (map point_in (values (codes "COR") group)) r.points (length group) s.points
+    (let n = few_values (codes "COR") group in let same = length-map (values (codes "COR") group) point_in in omega (arith, n, same)) in
     let many_ends = few_chosen (is_link r.kind) (ends group) r.ends (length group) s.ends (let n = few_values (codes "FTP") group in let same = ends_count group in omega (arith, n, same)) in
     let kind = kind_is group r s in
-    let nothing : list_any (is_unknown_pointer r.kind) (placed false group) ≡ false = rw kind at (pointer_kept group kept) in
+    let nothing : list_any (is_unknown_pointer r.kind) (zones_placed false group) ≡ false = rw kind at (pointer_kept group kept) in
     record {
       is = record {
         class = class.0.name;
         points = points;
-        no_points = none_chosen (has_points r.kind) (map point (values (codes "COR") group)) r.points s.points;
+        no_points = none_chosen (has_points r.kind) (map point_in (values (codes "COR") group)) r.points s.points;
         ends = found_ends.0;
         no_ends = none_chosen (is_link r.kind) (ends group) r.ends s.ends;
         classes = attrs.0;
@@ -478,11 +478,11 @@ record_read group r h s few kept =
         few_attributes = omega (arith, few, many_attributes);
         few_points = omega (arith, few, many_points);
         few_ends = omega (arith, few, many_ends);
-        pointers = subst (AllByRecursion PointsToNothing) s.extras (pointers_read r.kind (placed false group) nothing);
+        pointers = subst (AllByRecursion PointsToNothing) s.extras (pointers_read r.kind (zones_placed false group) nothing);
       };
     }
 
-records_read : (groups : List (List ZoneData)) (rs : List Record) → AllZip ReadsAs groups rs → AllByRecursion AreGroupZones groups → AllByRecursion (λ g. length g < 2 ^ 64) groups → AllByRecursion IsKept groups → AllByRecursion IsReadRecord rs
+records_read : (groups : List (List ZoneData)) (rs : List Record) → AllZip ReadsAsRecord groups rs → AllByRecursion AreGroupZones groups → AllByRecursion (λ g. length g < 2 ^ 64) groups → AllByRecursion IsKept groups → AllByRecursion IsReadRecord rs
 records_read [] [] s h few kept = tt
 records_read [] (r ∷ rs) s h few kept = absurd s
 records_read (g ∷ gs) [] s h few kept = tt

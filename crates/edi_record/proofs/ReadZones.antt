@@ -9,7 +9,7 @@ use Rattle.std.proofs.lemmas.List.{length-map}
 use Rattle.std.proofs.lemmas.List.Elements.{All-from_recursion}
 use Rattle.edi_line.specs.ZoneData.{ZoneData}
 use Rattle.edi_line.specs.Lines.{HasNoFeed, IsEnded, IsUnended, AreLines, without_last, content_of}
-use Rattle.edi_line.specs.inner.Lines.{lines_of, contents_of}
+use Rattle.edi_line.specs.inner.Lines.{lines_in, line_contents}
 use Rattle.edi_line.specs.Spelling.{Spelling, Reading, is_code_byte, is_printable}
 use Rattle.edi_line.specs.inner.Spelling.{reading_of, is_space, is_digit, code_of, has_head, spelling_of, stated_length}
 use Rattle.edi_line.specs.Zones.{begins_group, ends_group, before_end, groups_of}
@@ -72,8 +72,8 @@ contents_keep (line ∷ []) (inl e) = (ended_content line e, tt)
 contents_keep (line ∷ []) (inr u) = (unended_content line u, tt)
 contents_keep (line ∷ next ∷ lines) h = (ended_content line h.0, contents_keep (next ∷ lines) h.1)
 
-contents_one_line : (bytes : List ℕ) → AllByRecursion NoFeed (contents_of bytes)
-contents_one_line bytes = contents_keep (lines_of bytes) (lines_exist bytes).each
+contents_one_line : (bytes : List ℕ) → AllByRecursion NoFeed (line_contents bytes)
+contents_one_line bytes = contents_keep (lines_in bytes) (lines_exist bytes).each
 
 -- ---- what a line spells
 
@@ -210,7 +210,7 @@ zones_well (Begins z ∷ parts) h = (
 
 -- Every zone that is read can be printed.
 pub zones_printable : (bytes : List ℕ) → AllByRecursion IsPrintable (zones_of bytes)
-zones_printable bytes = zones_well (parts_after 0 (readings_of bytes)) (parts_well 0 (contents_of bytes) (contents_one_line bytes))
+zones_printable bytes = zones_well (parts_after 0 (readings_of bytes)) (parts_well 0 (line_contents bytes) (contents_one_line bytes))
 
 -- ---- there are no more zones than bytes
 
@@ -218,13 +218,13 @@ few_onto : (c : ℕ) (lines : List (List ℕ)) (n : ℕ) → length lines ≤ n 
 few_onto c [] n h = omega arith
 few_onto c (line ∷ lines) n h = omega arith
 
-few_lines : (bytes : List ℕ) → length (lines_of bytes) ≤ length bytes
+few_lines : (bytes : List ℕ) → length (lines_in bytes) ≤ length bytes
 few_lines [] = omega arith
 few_lines (c ∷ cs) = go (eqb c 10) (few_lines cs)
   where
-    go : (b : Bool) → length (lines_of cs) ≤ length cs → length (cond b ((c ∷ []) ∷ lines_of cs) (onto_first c (lines_of cs))) ≤ length (c ∷ cs)
+    go : (b : Bool) → length (lines_in cs) ≤ length cs → length (cond b ((c ∷ []) ∷ lines_in cs) (onto_first c (lines_in cs))) ≤ length (c ∷ cs)
     go true h = omega (arith, h)
-    go false h = omega (arith, few_onto c (lines_of cs) (length cs) h)
+    go false h = omega (arith, few_onto c (lines_in cs) (length cs) h)
 
 as_many_parts : (n : ℕ) (lines : List Reading) → length (parts_after n lines) ≡ length lines
 as_many_parts n [] = refl
@@ -241,8 +241,8 @@ pub few_zones_of : (bytes : List ℕ) → length (zones_of bytes) ≤ length byt
 few_zones_of bytes =
     let zones = few_zones (parts_after 0 (readings_of bytes)) in
     let parts = as_many_parts 0 (readings_of bytes) in
-    let readings = length-map (contents_of bytes) reading_of in
-    let contents = length-map (lines_of bytes) content_of in
+    let readings = length-map (line_contents bytes) reading_of in
+    let contents = length-map (lines_in bytes) content_of in
     let lines = few_lines bytes in
     omega (arith, zones, parts, readings, contents, lines)
 

@@ -5,7 +5,7 @@ use Rattle.edi_line.specs.inner.Refusal.{first_broken}
 use Rattle.edi_record.specs.Records.{values, has_points, is_link}
 use Rattle.edi_record.specs.inner.Records.{attributes}
 use Rattle.edi_record.specs.RecordRules.{has_no_identifier}
-use Rattle.edi_record.specs.inner.RecordRules.{kind_in, is_arc, counts_right, has_no_kind, has_no_class, has_bad_attribute, has_wrong_count, has_bad_point, has_bad_end, has_unknown_pointer, record_tests}
+use Rattle.edi_record.specs.inner.RecordRules.{kind_in, is_arc_kind, counts_right, has_no_kind, has_no_class, has_bad_attribute, has_wrong_count, has_bad_point, has_bad_end, has_unknown_pointer, record_tests}
 use Rattle.edi_record.specs.inner.RecordRefusal.{IsBreachOf, IsGroupRefusal}
 use Rattle.edi_record.specs.declared.record.Kind.{Kind}
 use Rattle.edi_record.specs.declared.record.Kind.TheVariants.{Pno, Par, Pfe, Fea, Lnk}
@@ -19,14 +19,14 @@ use Rattle.edi_record.proofs.Parts.{attributes_count, same_length}
 pub wrong_counts : (kind : Kind) (g : List ZoneData) (done : List Attribute) (n counted : ℕ) (a b : Bool) → kind_in g ≡ Some kind → attributes g ≡ map Some done → n ≡ length done
     → (has_points kind ≡ true → length (values (codes "COR") g) ≡ counted + 0) → (is_link kind ≡ true → length (values (codes "FTP") g) ≡ counted + 0)
     → a ≡ not (counts_right (values (codes "ATC") g) n)
-    → b ≡ ((is_arc kind && not (counts_right (values (codes "PTC") g) counted)) || (is_link kind && not (counts_right (values (codes "FTC") g) counted))) → has_wrong_count g ≡ (a || b)
+    → b ≡ ((is_arc_kind kind && not (counts_right (values (codes "PTC") g) counted)) || (is_link kind && not (counts_right (values (codes "FTC") g) counted))) → has_wrong_count g ≡ (a || b)
 wrong_counts kind g done n counted a b k made many points ends e f = rw (e, f, many, ← attributes_many) (by_kind kind k points ends)
   where
     attributes_many : length (values (codes "ATP") g) ≡ length done
     attributes_many = sym (attributes_count g) ∙ same_length (attributes g) done made
 
     by_kind : (kind : Kind) → kind_in g ≡ Some kind → (has_points kind ≡ true → length (values (codes "COR") g) ≡ counted + 0) → (is_link kind ≡ true → length (values (codes "FTP") g) ≡ counted + 0)
-        → has_wrong_count g ≡ (not (counts_right (values (codes "ATC") g) (length (values (codes "ATP") g))) || ((is_arc kind && not (counts_right (values (codes "PTC") g) counted)) || (is_link kind && not (counts_right (values (codes "FTC") g) counted))))
+        → has_wrong_count g ≡ (not (counts_right (values (codes "ATC") g) (length (values (codes "ATP") g))) || ((is_arc_kind kind && not (counts_right (values (codes "PTC") g) counted)) || (is_link kind && not (counts_right (values (codes "FTC") g) counted))))
     by_kind Pno k points ends = rw k refl
     by_kind Par k points ends = let few : length (values (codes "COR") g) ≡ counted = omega (arith, points refl) in rw (k, few) refl
     by_kind Pfe k points ends = rw k refl

@@ -6,7 +6,7 @@ use Rattle.std.proofs.lemmas.Slice.Eq.{bytes_eq-Decides}
 use Rattle.edi_line.specs.ZoneData.{ZoneData, has_code}
 use Rattle.edi_record.specs.Records.{values, has_points, is_link, known_anywhere, known_in, is_known}
 use Rattle.edi_record.specs.inner.Records.{is_open_after, is_extra}
-use Rattle.edi_record.specs.inner.RecordRules.{is_arc}
+use Rattle.edi_record.specs.inner.RecordRules.{is_arc_kind}
 use Rattle.edi_record.specs.inner.Stored.{AreTexts, StoresAttributes, StoresPoints, StoresEnds, StoresExtras, StoresRecord, TakesExtra, KeptAttributes, KeptExtras, KeptRecord}
 use Rattle.edi_record.specs.declared.only.Only.{Only}
 use Rattle.edi_record.specs.declared.role.ZoneRole.TheVariants.{BodyCount, Skipped, Unknown}
@@ -42,7 +42,7 @@ pub record Others (code : List ℕ) (d : KeptRecord) (z : ZoneData) (left group 
   pub identifier : bytes_eq code (codes "RID") ≡ false → AreTexts d.identifier (values (codes "RID") left) (values (codes "RID") group)
   pub class : bytes_eq code (codes "SCP") ≡ false → AreTexts d.class (values (codes "SCP") left) (values (codes "SCP") group)
   pub attribute_count : bytes_eq code (codes "ATC") ≡ false → AreTexts d.attribute_count (values (codes "ATC") left) (values (codes "ATC") group)
-  pub point_count : bytes_eq code (codes "PTC") ≡ false → is_arc d.kind ≡ true → AreTexts d.body_count (values (codes "PTC") left) (values (codes "PTC") group)
+  pub point_count : bytes_eq code (codes "PTC") ≡ false → is_arc_kind d.kind ≡ true → AreTexts d.body_count (values (codes "PTC") left) (values (codes "PTC") group)
   pub end_count : bytes_eq code (codes "FTC") ≡ false → is_link d.kind ≡ true → AreTexts d.body_count (values (codes "FTC") left) (values (codes "FTC") group)
   pub counted_points : bytes_eq code (codes "COR") ≡ false → has_points d.kind ≡ true → length (values (codes "COR") group) ≡ d.counted + length (values (codes "COR") left)
   pub counted_ends : bytes_eq code (codes "FTP") ≡ false → is_link d.kind ≡ true → length (values (codes "FTP") group) ≡ d.counted + length (values (codes "FTP") left)

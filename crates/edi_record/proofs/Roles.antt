@@ -3,7 +3,7 @@ use Rattle.std.proofs.Common.{◌≡◌, ℕ, ◌⊎◌, inl, inr, Bool, true, f
 use Rattle.std.specs.List.{list_any}
 use Rattle.std.proofs.lemmas.Slice.Eq.{bytes_eq-Decides}
 use Rattle.edi_record.specs.Records.{has_points, is_link, known_anywhere, known_in, is_known}
-use Rattle.edi_record.specs.inner.RecordRules.{is_arc}
+use Rattle.edi_record.specs.inner.RecordRules.{is_arc_kind}
 use Rattle.edi_record.specs.inner.Stored.{role_in, body_role_in}
 use Rattle.edi_record.proofs.Stated.{any_apart}
 use Rattle.edi_record.specs.declared.record.Kind.{Kind}
@@ -19,7 +19,7 @@ CodeIs kind code AttributeCount = code ≡ codes "ATC"
 CodeIs kind code AttributeClass = code ≡ codes "ATP"
 CodeIs kind code AttributeSet = code ≡ codes "TEX"
 CodeIs kind code AttributeValue = code ≡ codes "ATV"
-CodeIs kind code BodyCount = ((is_arc kind ≡ true) × (code ≡ codes "PTC")) ⊎ ((is_link kind ≡ true) × (code ≡ codes "FTC"))
+CodeIs kind code BodyCount = ((is_arc_kind kind ≡ true) × (code ≡ codes "PTC")) ⊎ ((is_link kind ≡ true) × (code ≡ codes "FTC"))
 CodeIs kind code Position = (has_points kind ≡ true) × (code ≡ codes "COR")
 CodeIs kind code EndPointer = (is_link kind ≡ true) × (code ≡ codes "FTP")
 CodeIs kind code EndSense = (is_link kind ≡ true) × (code ≡ codes "SNS")
@@ -82,7 +82,7 @@ place_known Pfe e = absurd cc
 place_known Fea e = absurd cc
 place_known Lnk e = absurd cc
 
-pub point_count_known : (kind : Kind) → is_arc kind ≡ true → is_known kind (codes "PTC") ≡ true
+pub point_count_known : (kind : Kind) → is_arc_kind kind ≡ true → is_known kind (codes "PTC") ≡ true
 point_count_known Par e = refl
 point_count_known Pno e = absurd cc
 point_count_known Pfe e = absurd cc
@@ -104,7 +104,7 @@ no_link Par e f = absurd cc
 no_link Pfe e f = absurd cc
 no_link Fea e f = absurd cc
 
-pub no_arc : (kind : Kind) → is_arc kind ≡ true → is_link kind ≡ true → ⊥
+pub no_arc : (kind : Kind) → is_arc_kind kind ≡ true → is_link kind ≡ true → ⊥
 no_arc Lnk e f = absurd cc
 no_arc Pno e f = absurd cc
 no_arc Par e f = absurd cc
@@ -120,7 +120,7 @@ place_apart Pfe code e none = absurd cc
 place_apart Fea code e none = absurd cc
 place_apart Lnk code e none = absurd cc
 
-pub arc_apart : (kind : Kind) (code : List ℕ) → is_arc kind ≡ true → list_any (bytes_eq code) (known_in kind) ≡ false → (bytes_eq code (codes "COR") ≡ false) × (bytes_eq code (codes "PTC") ≡ false)
+pub arc_apart : (kind : Kind) (code : List ℕ) → is_arc_kind kind ≡ true → list_any (bytes_eq code) (known_in kind) ≡ false → (bytes_eq code (codes "COR") ≡ false) × (bytes_eq code (codes "PTC") ≡ false)
 arc_apart Par code e none = let a = any_apart (bytes_eq code) (known_in Par) none in (a.0, a.1.0)
 arc_apart Pno code e none = absurd cc
 arc_apart Pfe code e none = absurd cc

@@ -14,8 +14,8 @@ use Rattle.edi_record.specs.RecordRules.{BreaksRecordRule}
 use Rattle.edi_record.specs.Records.{States}
 use Rattle.edi_record.specs.Rows.{line, one_node, the_node, node_group}
 use Rattle.edi_record.specs.inner.RecordRules.{record_tests, FailsTest}
-use Rattle.edi_record.specs.inner.Records.{ReadsAs, set_after, value_after, attributes, sns_after, ends, placed}
-use Rattle.edi_record.specs.inner.Texts.{pointer, point, count}
+use Rattle.edi_record.specs.inner.Records.{ReadsAsRecord, set_after, value_after, attributes, sns_after, ends, zones_placed}
+use Rattle.edi_record.specs.inner.Texts.{pointer, point_in, count}
 use Rattle.edi_record.proofs.RulesSaid.{records_unbroken, record_least}
 use Rattle.edi_record.proofs.StatesSaid.{states_said}
 
@@ -23,8 +23,8 @@ pub node_zones : groups_of (zones_of (one_node [])) ≡ node_group ∷ []
 unfolding reading_of has_head
 node_zones = refl
 
-pub node_stated : ReadsAs node_group the_node
-unfolding number whole_number fraction_number pointer point set_after value_after attributes sns_after ends placed
+pub node_stated : ReadsAsRecord node_group the_node
+unfolding number whole_number fraction_number pointer point_in set_after value_after attributes sns_after ends zones_placed
 node_stated = record { type = refl; rid = refl; scp = refl; points = refl; ends = refl; attributes = refl; extras = refl }
 
 pub node_said : States node_group the_node
@@ -35,19 +35,19 @@ abbrev pub rules_of : List ℕ → List (Option ℕ)
 rules_of bytes = map (λ group. first_broken (record_tests group)) (groups_of (zones_of bytes))
 
 pub node_unbroken : rules_of (one_node []) ≡ None ∷ []
-unfolding reading_of has_head number whole_number fraction_number pointer point count placed
+unfolding reading_of has_head number whole_number fraction_number pointer point_in count zones_placed
 node_unbroken = refl
 
 wrong_count_rule : rules_of (one_node (line (codes "ATCSN01:1") [])) ≡ Some 205 ∷ []
-unfolding reading_of has_head number whole_number fraction_number pointer point count placed
+unfolding reading_of has_head number whole_number fraction_number pointer point_in count zones_placed
 wrong_count_rule = refl
 
 unknown_pointer_rule : rules_of (one_node (line (codes "REFCP22:EDAB01;SeT1;PNO;Noeud_") [])) ≡ Some 208 ∷ []
-unfolding reading_of has_head number whole_number fraction_number pointer point count placed
+unfolding reading_of has_head number whole_number fraction_number pointer point_in count zones_placed
 unknown_pointer_rule = refl
 
 empty_pointer_rule : rules_of (one_node (line (codes "REFCP00:") [])) ≡ None ∷ []
-unfolding reading_of has_head number whole_number fraction_number pointer point count placed
+unfolding reading_of has_head number whole_number fraction_number pointer point_in count zones_placed
 empty_pointer_rule = refl
 
 -- ---- a file of one record

@@ -17,9 +17,9 @@ use Rattle.edi_record.specs.RecordRules.HasBadPoint.{no_position, of_node, of_ar
 use Rattle.edi_record.specs.RecordRules.HasBadEnd.{no_pointer as no_end_pointer, few as few_ends, stray_sense, second_sense}
 use Rattle.edi_record.specs.RecordRules.BreaksGroupRule.{lacks_kind, lacks_identifier, lacks_class, bad_attribute, wrong_count, bad_point, bad_end, unknown_pointer}
 use Rattle.edi_record.specs.Texts.{PointerText, IsPosition}
-use Rattle.edi_record.specs.inner.RecordRules.{kind_named, kind_in, in_kind, is_node, is_arc, has_no_kind, has_no_class, some_no_pointer, count_until, repeats, has_bad_attribute, counts_wrong, has_wrong_count, has_bad_point, is_unknown_pointer, has_unknown_pointer, record_tests, FailsTest}
-use Rattle.edi_record.specs.inner.Records.{Placed, placed, is_open_after}
-use Rattle.edi_record.specs.inner.Texts.{pointer, point}
+use Rattle.edi_record.specs.inner.RecordRules.{kind_named, kind_in, in_kind, is_node, is_arc_kind, has_no_kind, has_no_class, some_no_pointer, count_until, repeats_code, has_bad_attribute, counts_wrong, has_wrong_count, has_bad_point, is_unknown_pointer, has_unknown_pointer, record_tests, FailsTest}
+use Rattle.edi_record.specs.inner.Records.{Placed, zones_placed, is_open_after}
+use Rattle.edi_record.specs.inner.Texts.{pointer, point_in}
 use Rattle.edi_record.specs.declared.fault.RecordFault.{RecordFault}
 use Rattle.edi_record.specs.declared.fault.RecordFault.TheVariants as fault
 use Rattle.edi_record.specs.declared.record.Kind.{Kind}
@@ -52,13 +52,13 @@ no_pointer_read text n = go (pointer text) refl
     go None e = refl
     go (Some p) e = absurd (n p ((pointer_is text p).0 e))
 
-no_place_said : (text : List ℕ) → is_none (point text) ≡ true → (p : Point) → ¬ (IsPosition text p)
+no_place_said : (text : List ℕ) → is_none (point_in text) ≡ true → (p : Point) → ¬ (IsPosition text p)
 no_place_said text e p h = let f : false ≡ true = sym (ap is_none ((place_is text p).1 h)) ∙ e in absurd cc
 
-no_place_read : (text : List ℕ) → ((p : Point) → ¬ (IsPosition text p)) → is_none (point text) ≡ true
-no_place_read text n = go (point text) refl
+no_place_read : (text : List ℕ) → ((p : Point) → ¬ (IsPosition text p)) → is_none (point_in text) ≡ true
+no_place_read text n = go (point_in text) refl
   where
-    go : (o : Option Point) → point text ≡ o → is_none o ≡ true
+    go : (o : Option Point) → point_in text ≡ o → is_none o ≡ true
     go None e = refl
     go (Some p) e = absurd (n p ((place_is text p).0 e))
 
@@ -97,7 +97,7 @@ node_kind Pfe e = absurd cc
 node_kind Fea e = absurd cc
 node_kind Lnk e = absurd cc
 
-arc_kind : (kind : Kind) → is_arc kind ≡ true → kind ≡ Par
+arc_kind : (kind : Kind) → is_arc_kind kind ≡ true → kind ≡ Par
 arc_kind Par e = refl
 arc_kind Pno e = absurd cc
 arc_kind Pfe e = absurd cc
@@ -114,8 +114,8 @@ link_kind Fea e = absurd cc
 node_said : (g : List ZoneData) → in_kind is_node g ≡ true → IsOfKind g Pno
 node_said g e = let k = in_kind_said is_node g e in subst (IsOfKind g) (node_kind k.0 k.2) k.1
 
-arc_said : (g : List ZoneData) → in_kind is_arc g ≡ true → IsOfKind g Par
-arc_said g e = let k = in_kind_said is_arc g e in subst (IsOfKind g) (arc_kind k.0 k.2) k.1
+arc_said : (g : List ZoneData) → in_kind is_arc_kind g ≡ true → IsOfKind g Par
+arc_said g e = let k = in_kind_said is_arc_kind g e in subst (IsOfKind g) (arc_kind k.0 k.2) k.1
 
 link_said : (g : List ZoneData) → in_kind is_link g ≡ true → IsOfKind g Lnk
 link_said g e = let k = in_kind_said is_link g e in subst (IsOfKind g) (link_kind k.0 k.2) k.1
@@ -161,34 +161,34 @@ module _ (test : Placed → Bool) (T : List ZoneData → ZoneData → Type 0) wh
   abbrev at_zone : Bool → ZoneData → Bool
   at_zone b z = test (record { open_before = b; zone = z })
 
-  any_here : (b : Bool) (z : ZoneData) (zs : List ZoneData) → at_zone b z ≡ true → list_any test (placed b (z ∷ zs)) ≡ true
-  unfolding placed
+  any_here : (b : Bool) (z : ZoneData) (zs : List ZoneData) → at_zone b z ≡ true → list_any test (zones_placed b (z ∷ zs)) ≡ true
+  unfolding zones_placed
   any_here b z zs e = or_left _ _ e
 
-  any_later : (b : Bool) (z : ZoneData) (zs : List ZoneData) → list_any test (placed (is_open_after b z) zs) ≡ true → list_any test (placed b (z ∷ zs)) ≡ true
-  unfolding placed
+  any_later : (b : Bool) (z : ZoneData) (zs : List ZoneData) → list_any test (zones_placed (is_open_after b z) zs) ≡ true → list_any test (zones_placed b (z ∷ zs)) ≡ true
+  unfolding zones_placed
   any_later b z zs e = or_right _ _ e
 
-  any_split : (b : Bool) (z : ZoneData) (zs : List ZoneData) → list_any test (placed b (z ∷ zs)) ≡ true → (at_zone b z ≡ true) ⊎ (list_any test (placed (is_open_after b z) zs) ≡ true)
-  unfolding placed
+  any_split : (b : Bool) (z : ZoneData) (zs : List ZoneData) → list_any test (zones_placed b (z ∷ zs)) ≡ true → (at_zone b z ≡ true) ⊎ (list_any test (zones_placed (is_open_after b z) zs) ≡ true)
+  unfolding zones_placed
   any_split b z zs e = or_cases _ _ e
 
-  any_none : (b : Bool) → list_any test (placed b []) ≡ true → ⊥
-  unfolding placed
+  any_none : (b : Bool) → list_any test (zones_placed b []) ≡ true → ⊥
+  unfolding zones_placed
   any_none b e = let f : false ≡ true = e in cc
 
   placed_said : ((b : Bool) (front : List ZoneData) (z : ZoneData) → SaysOpen b front → at_zone b z ≡ true → T front z)
-      → (whole : List ZoneData) (b : Bool) (front zs : List ZoneData) → whole ≡ front ++ zs → SaysOpen b front → list_any test (placed b zs) ≡ true → Finds whole
+      → (whole : List ZoneData) (b : Bool) (front zs : List ZoneData) → whole ≡ front ++ zs → SaysOpen b front → list_any test (zones_placed b zs) ≡ true → Finds whole
   placed_said to whole b front [] cut says e = absurd (any_none b e)
   placed_said to whole b front (z ∷ zs) cut says e =
       go (λ h. placed_said to whole (is_open_after b z) (front ++ z ∷ []) zs (cut ∙ sym (append_assoc front (z ∷ []) zs)) (open_more b front z says) h) (any_split b z zs e)
     where
-      go : (list_any test (placed (is_open_after b z) zs) ≡ true → Finds whole) → (at_zone b z ≡ true) ⊎ (list_any test (placed (is_open_after b z) zs) ≡ true) → Finds whole
+      go : (list_any test (zones_placed (is_open_after b z) zs) ≡ true → Finds whole) → (at_zone b z ≡ true) ⊎ (list_any test (zones_placed (is_open_after b z) zs) ≡ true) → Finds whole
       go more (inl h) = (front, z, zs, cut, to b front z says h)
       go more (inr h) = more h
 
   placed_read : ((b : Bool) (front : List ZoneData) (z : ZoneData) → SaysOpen b front → T front z → at_zone b z ≡ true)
-      → (b : Bool) (front before : List ZoneData) (z : ZoneData) (behind : List ZoneData) → SaysOpen b front → T (front ++ before) z → list_any test (placed b (before ++ z ∷ behind)) ≡ true
+      → (b : Bool) (front before : List ZoneData) (z : ZoneData) (behind : List ZoneData) → SaysOpen b front → T (front ++ before) z → list_any test (zones_placed b (before ++ z ∷ behind)) ≡ true
   placed_read from b front [] z behind says t = any_here b z behind (from b front z says (subst (λ f. T f z) (append-nil front) t))
   placed_read from b front (x ∷ before) z behind says t =
       any_later b x (before ++ z ∷ behind)
@@ -257,12 +257,12 @@ abbrev ComesTwice : (ZoneData → Bool) → (ZoneData → Bool) → List ℕ →
 ComesTwice begins ends code whole =
     (front since : List ZoneData) × (z : ZoneData) × (behind : List ZoneData) × (whole ≡ front ++ z ∷ behind) × (has_code code z ≡ true) × IsSince begins ends front since × (list_any (has_code code) since ≡ true)
 
-repeats_said : (begins ends : ZoneData → Bool) (code : List ℕ) (whole before zs : List ZoneData) → whole ≡ before ++ zs → repeats begins ends code zs ≡ true → ComesTwice begins ends code whole
+repeats_said : (begins ends : ZoneData → Bool) (code : List ℕ) (whole before zs : List ZoneData) → whole ≡ before ++ zs → repeats_code begins ends code zs ≡ true → ComesTwice begins ends code whole
 repeats_said begins ends code whole before [] cut e = let f : false ≡ true = e in absurd cc
 repeats_said begins ends code whole before (x ∷ zs) cut e =
     go (or_cases _ _ e) (λ h. repeats_said begins ends code whole (before ++ x ∷ []) zs (cut ∙ sym (append_assoc before (x ∷ []) zs)) h)
   where
-    go : ((begins x && leb 2 (count_until ends code zs)) ≡ true) ⊎ (repeats begins ends code zs ≡ true) → (repeats begins ends code zs ≡ true → ComesTwice begins ends code whole) → ComesTwice begins ends code whole
+    go : ((begins x && leb 2 (count_until ends code zs)) ≡ true) ⊎ (repeats_code begins ends code zs ≡ true) → (repeats_code begins ends code zs ≡ true → ComesTwice begins ends code whole) → ComesTwice begins ends code whole
     go (inl h) more =
         let p = and_parts _ _ h in
         let t = two_in ends code zs (leb-true 2 _ p.1) in
@@ -279,15 +279,15 @@ repeats_said begins ends code whole before (x ∷ zs) cut e =
     go (inr h) more = more h
 
 repeats_read : (begins ends : ZoneData → Bool) (code : List ℕ) (before : List ZoneData) (head : ZoneData) (since : List ZoneData) (z : ZoneData) (behind : List ZoneData)
-    → begins head ≡ true → list_any ends since ≡ false → list_any (has_code code) since ≡ true → has_code code z ≡ true → ends z ≡ false → repeats begins ends code (before ++ head ∷ (since ++ z ∷ behind)) ≡ true
+    → begins head ≡ true → list_any ends since ≡ false → list_any (has_code code) since ≡ true → has_code code z ≡ true → ends z ≡ false → repeats_code begins ends code (before ++ head ∷ (since ++ z ∷ behind)) ≡ true
 repeats_read begins ends code [] head since z behind b none some is apart =
     or_left _ _ (and_from _ _ b (le-leb 2 (count_until ends code (since ++ z ∷ behind)) (count_two ends code since z behind none some is apart)))
 repeats_read begins ends code (x ∷ before) head since z behind b none some is apart = or_right _ _ (repeats_read begins ends code before head since z behind b none some is apart)
 
 twice_read : (begins ends : ZoneData → Bool) (code : List ℕ) (whole front since : List ZoneData) (z : ZoneData) (behind : List ZoneData) → whole ≡ front ++ z ∷ behind → has_code code z ≡ true → ends z ≡ false
-    → IsSince begins ends front since → list_any (has_code code) since ≡ true → repeats begins ends code whole ≡ true
+    → IsSince begins ends front since → list_any (has_code code) since ≡ true → repeats_code begins ends code whole ≡ true
 twice_read begins ends code whole front since z behind cut is apart s some =
-    ap (repeats begins ends code) (cut ∙ ap (λ l. l ++ z ∷ behind) s.cut ∙ append_assoc s.before (s.head ∷ since) (z ∷ behind))
+    ap (repeats_code begins ends code) (cut ∙ ap (λ l. l ++ z ∷ behind) s.cut ∙ append_assoc s.before (s.head ∷ since) (z ∷ behind))
     ∙ repeats_read begins ends code s.before s.head since z behind s.begun s.goes_on some is apart
 
 -- ---- 204
@@ -311,7 +311,7 @@ stray_read b front z says h = and_from _ _ h.0 (ap not (false_from_ne_true b (λ
 said_204 : (g : List ZoneData) → has_bad_attribute g ≡ true → HasBadAttribute g
 said_204 g e = go (or_cases _ _ e)
   where
-    behind_first : (list_any is_stray_value (placed false g) ≡ true) ⊎ (repeats opens (λ z. opens z || closes z) (codes "TEX") g ≡ true) → HasBadAttribute g
+    behind_first : (list_any is_stray_value (zones_placed false g) ≡ true) ⊎ (repeats_code opens (λ z. opens z || closes z) (codes "TEX") g ≡ true) → HasBadAttribute g
     behind_first (inl h) =
         let f = placed_said is_stray_value StrayValue stray_said g false [] g refl open_none h in
         stray_value f.0 f.1 (f.2, f.3) f.4.0 (λ since o. f.4.1 (since, o))
@@ -319,14 +319,14 @@ said_204 g e = go (or_cases _ _ e)
         let f = repeats_said opens (λ z. opens z || closes z) (codes "TEX") g [] g refl h in
         second_set f.0 f.1 f.2 (f.3, f.4) f.5 f.6 f.7
 
-    go : (some_no_pointer (values (codes "ATP") g) ≡ true) ⊎ ((list_any is_stray_value (placed false g) || repeats opens (λ z. opens z || closes z) (codes "TEX") g) ≡ true) → HasBadAttribute g
+    go : (some_no_pointer (values (codes "ATP") g) ≡ true) ⊎ ((list_any is_stray_value (zones_placed false g) || repeats_code opens (λ z. opens z || closes z) (codes "TEX") g) ≡ true) → HasBadAttribute g
     go (inl h) = no_class_pointer (any_said (λ text. is_none (pointer text)) IsNoPointer no_pointer_said (values (codes "ATP") g) h)
     go (inr h) = behind_first (or_cases _ _ h)
 
 read_204 : (g : List ZoneData) → HasBadAttribute g → has_bad_attribute g ≡ true
 read_204 g (no_class_pointer h) = or_left _ _ (any_read (λ text. is_none (pointer text)) IsNoPointer no_pointer_read (values (codes "ATP") g) h)
 read_204 g (stray_value front z at is none) =
-    or_right _ _ (or_left _ _ (ap (λ l. list_any is_stray_value (placed false l)) at.1
+    or_right _ _ (or_left _ _ (ap (λ l. list_any is_stray_value (zones_placed false l)) at.1
     ∙ placed_read is_stray_value StrayValue stray_read false [] front z at.0 open_none (is, λ h. none h.0 h.1)))
 read_204 g (second_set front since z at is opened some) =
     let apart : (opens z || closes z) ≡ false = or_from _ _ (code_apart (codes "TEX") (codes "ATP") z refl is) (code_apart (codes "TEX") (codes "ATV") z refl is) in
@@ -343,18 +343,18 @@ wrong_read g a b w = ap not (false_from_ne_true _ (λ e. w (right_said (values a
 said_205 : (g : List ZoneData) → has_wrong_count g ≡ true → HasWrongCount g
 said_205 g e = go (or_cases _ _ e)
   where
-    behind_first : ((in_kind is_arc g && counts_wrong (codes "PTC") (codes "COR") g) ≡ true) ⊎ ((in_kind is_link g && counts_wrong (codes "FTC") (codes "FTP") g) ≡ true) → HasWrongCount g
+    behind_first : ((in_kind is_arc_kind g && counts_wrong (codes "PTC") (codes "COR") g) ≡ true) ⊎ ((in_kind is_link g && counts_wrong (codes "FTC") (codes "FTP") g) ≡ true) → HasWrongCount g
     behind_first (inl h) = let p = and_parts _ _ h in of_points (arc_said g p.0) (wrong_said g (codes "PTC") (codes "COR") p.1)
     behind_first (inr h) = let p = and_parts _ _ h in of_ends (link_said g p.0) (wrong_said g (codes "FTC") (codes "FTP") p.1)
 
     go : (counts_wrong (codes "ATC") (codes "ATP") g ≡ true)
-        ⊎ (((in_kind is_arc g && counts_wrong (codes "PTC") (codes "COR") g) || (in_kind is_link g && counts_wrong (codes "FTC") (codes "FTP") g)) ≡ true) → HasWrongCount g
+        ⊎ (((in_kind is_arc_kind g && counts_wrong (codes "PTC") (codes "COR") g) || (in_kind is_link g && counts_wrong (codes "FTC") (codes "FTP") g)) ≡ true) → HasWrongCount g
     go (inl h) = of_attributes (wrong_said g (codes "ATC") (codes "ATP") h)
     go (inr h) = behind_first (or_cases _ _ h)
 
 read_205 : (g : List ZoneData) → HasWrongCount g → has_wrong_count g ≡ true
 read_205 g (of_attributes h) = or_left _ _ (wrong_read g (codes "ATC") (codes "ATP") h)
-read_205 g (of_points k h) = or_right _ _ (or_left _ _ (and_from _ _ (in_kind_read is_arc g Par k refl) (wrong_read g (codes "PTC") (codes "COR") h)))
+read_205 g (of_points k h) = or_right _ _ (or_left _ _ (and_from _ _ (in_kind_read is_arc_kind g Par k refl) (wrong_read g (codes "PTC") (codes "COR") h)))
 read_205 g (of_ends k h) = or_right _ _ (or_right _ _ (and_from _ _ (in_kind_read is_link g Lnk k refl) (wrong_read g (codes "FTC") (codes "FTP") h)))
 
 -- ---- 206
@@ -362,24 +362,24 @@ read_205 g (of_ends k h) = or_right _ _ (or_right _ _ (and_from _ _ (in_kind_rea
 said_206 : (g : List ZoneData) → has_bad_point g ≡ true → HasBadPoint g
 said_206 g e = go (or_cases _ _ e)
   where
-    behind_first : ((in_kind is_node g && not (eqb (length (values (codes "COR") g)) 1)) ≡ true) ⊎ ((in_kind is_arc g && ltb (length (values (codes "COR") g)) 2) ≡ true) → HasBadPoint g
+    behind_first : ((in_kind is_node g && not (eqb (length (values (codes "COR") g)) 1)) ≡ true) ⊎ ((in_kind is_arc_kind g && ltb (length (values (codes "COR") g)) 2) ≡ true) → HasBadPoint g
     behind_first (inl h) = let p = and_parts _ _ h in of_node (node_said g p.0) (λ one. both_ways _ (not-true _ p.1) (eq-eqb _ _ one))
     behind_first (inr h) = let p = and_parts _ _ h in of_arc (arc_said g p.0) (ltb-true _ _ p.1)
 
-    go : ((in_kind has_points g && list_any (λ text. is_none (point text)) (values (codes "COR") g)) ≡ true)
-        ⊎ (((in_kind is_node g && not (eqb (length (values (codes "COR") g)) 1)) || (in_kind is_arc g && ltb (length (values (codes "COR") g)) 2)) ≡ true) → HasBadPoint g
+    go : ((in_kind has_points g && list_any (λ text. is_none (point_in text)) (values (codes "COR") g)) ≡ true)
+        ⊎ (((in_kind is_node g && not (eqb (length (values (codes "COR") g)) 1)) || (in_kind is_arc_kind g && ltb (length (values (codes "COR") g)) 2)) ≡ true) → HasBadPoint g
     go (inl h) =
         let p = and_parts _ _ h in
         let k = in_kind_said has_points g p.0 in
-        no_position k.0 k.1 k.2 (any_said (λ text. is_none (point text)) (λ text. (p : Point) → ¬ (IsPosition text p)) no_place_said (values (codes "COR") g) p.1)
+        no_position k.0 k.1 k.2 (any_said (λ text. is_none (point_in text)) (λ text. (p : Point) → ¬ (IsPosition text p)) no_place_said (values (codes "COR") g) p.1)
     go (inr h) = behind_first (or_cases _ _ h)
 
 read_206 : (g : List ZoneData) → HasBadPoint g → has_bad_point g ≡ true
 read_206 g (no_position kind k has h) =
-    or_left _ _ (and_from _ _ (in_kind_read has_points g kind k has) (any_read (λ text. is_none (point text)) (λ text. (p : Point) → ¬ (IsPosition text p)) no_place_read (values (codes "COR") g) h))
+    or_left _ _ (and_from _ _ (in_kind_read has_points g kind k has) (any_read (λ text. is_none (point_in text)) (λ text. (p : Point) → ¬ (IsPosition text p)) no_place_read (values (codes "COR") g) h))
 read_206 g (of_node k other) =
     or_right _ _ (or_left _ _ (and_from _ _ (in_kind_read is_node g Pno k refl) (ap not (false_from_ne_true _ (λ e. other (eqb-true (length (values (codes "COR") g)) 1 e))))))
-read_206 g (of_arc k few) = or_right _ _ (or_right _ _ (and_from _ _ (in_kind_read is_arc g Par k refl) (lt-ltb (length (values (codes "COR") g)) 2 few)))
+read_206 g (of_arc k few) = or_right _ _ (or_right _ _ (and_from _ _ (in_kind_read is_arc_kind g Par k refl) (lt-ltb (length (values (codes "COR") g)) 2 few)))
 
 -- ---- 207
 
@@ -411,21 +411,21 @@ abbrev bad_ends : List ZoneData → Bool
 bad_ends g = some_no_pointer (values (codes "FTP") g)
     || (ltb (length (values (codes "FTP") g)) 2
     || (list_any (has_code (codes "SNS")) (before_first points_at g)
-    || repeats points_at points_at (codes "SNS") g))
+    || repeats_code points_at points_at (codes "SNS") g))
 
 said_207 : (g : List ZoneData) → bad_ends g ≡ true → HasBadEnd g
 said_207 g e = go (or_cases _ _ e)
   where
-    third : (list_any (has_code (codes "SNS")) (before_first points_at g) ≡ true) ⊎ (repeats points_at points_at (codes "SNS") g ≡ true) → HasBadEnd g
+    third : (list_any (has_code (codes "SNS")) (before_first points_at g) ≡ true) ⊎ (repeats_code points_at points_at (codes "SNS") g ≡ true) → HasBadEnd g
     third (inl h) = let f = first_said (has_code (codes "SNS")) points_at g h in stray_sense f.0 f.1 (f.2, f.3) f.4 f.5
     third (inr h) = let f = repeats_said points_at points_at (codes "SNS") g [] g refl h in second_sense f.0 f.1 f.2 (f.3, f.4) f.5 f.6 f.7
 
-    second : (ltb (length (values (codes "FTP") g)) 2 ≡ true) ⊎ ((list_any (has_code (codes "SNS")) (before_first points_at g) || repeats points_at points_at (codes "SNS") g) ≡ true) → HasBadEnd g
+    second : (ltb (length (values (codes "FTP") g)) 2 ≡ true) ⊎ ((list_any (has_code (codes "SNS")) (before_first points_at g) || repeats_code points_at points_at (codes "SNS") g) ≡ true) → HasBadEnd g
     second (inl h) = few_ends (ltb-true _ _ h)
     second (inr h) = third (or_cases _ _ h)
 
     go : (some_no_pointer (values (codes "FTP") g) ≡ true)
-        ⊎ ((ltb (length (values (codes "FTP") g)) 2 || (list_any (has_code (codes "SNS")) (before_first points_at g) || repeats points_at points_at (codes "SNS") g)) ≡ true) → HasBadEnd g
+        ⊎ ((ltb (length (values (codes "FTP") g)) 2 || (list_any (has_code (codes "SNS")) (before_first points_at g) || repeats_code points_at points_at (codes "SNS") g)) ≡ true) → HasBadEnd g
     go (inl h) = no_end_pointer (any_said (λ text. is_none (pointer text)) IsNoPointer no_pointer_said (values (codes "FTP") g) h)
     go (inr h) = second (or_cases _ _ h)
 
@@ -461,14 +461,14 @@ unknown_read kind b front z says h = and_from _ _ (test_extra kind b front z say
 
 said_208 : (g : List ZoneData) → has_unknown_pointer g ≡ true → HasUnknownPointer g
 said_208 g e =
-    let k = in_kind_said (λ kind. list_any (is_unknown_pointer kind) (placed false g)) g e in
+    let k = in_kind_said (λ kind. list_any (is_unknown_pointer kind) (zones_placed false g)) g e in
     let f = placed_said (is_unknown_pointer k.0) (UnknownPointer k.0) (unknown_said k.0) g false [] g refl open_none k.2 in
     record { kind = k.0; is_kind = k.1; front = f.0; zone = f.1; is_in = (f.2, f.3); extra = f.4.0; format = f.4.1; some = f.4.2 }
 
 read_208 : (g : List ZoneData) → HasUnknownPointer g → has_unknown_pointer g ≡ true
 read_208 g h =
-    in_kind_read (λ kind. list_any (is_unknown_pointer kind) (placed false g)) g h.kind h.is_kind
-    (ap (λ l. list_any (is_unknown_pointer h.kind) (placed false l)) h.is_in.1
+    in_kind_read (λ kind. list_any (is_unknown_pointer kind) (zones_placed false g)) g h.kind h.is_kind
+    (ap (λ l. list_any (is_unknown_pointer h.kind) (zones_placed false l)) h.is_in.1
     ∙ placed_read (is_unknown_pointer h.kind) (UnknownPointer h.kind) (unknown_read h.kind) false [] h.front h.zone h.is_in.0 open_none (h.extra, h.format, h.some))
 
 -- ---- all rules of a group

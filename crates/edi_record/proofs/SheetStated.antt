@@ -9,7 +9,7 @@ use Rattle.edi_line.specs.Printing.{zone_text, line_numbered, IsPrintable, lines
 use Rattle.edi_line.proofs.Printed.{printed_again}
 use Rattle.edi_record.specs.Shapes.{kind_code}
 use Rattle.edi_record.specs.Records.{values, States}
-use Rattle.edi_record.specs.inner.Records.{ReadsAs}
+use Rattle.edi_record.specs.inner.Records.{ReadsAsRecord}
 use Rattle.edi_record.specs.CanonicalZones.{class_text, cse_zone, begin_zone, end_zone}
 use Rattle.edi_record.specs.RecordLayout.{Letters, zones_of_body, zones_of_record, zones_of_sheet, records_layout, is_free, IsRecord, settled_record, LayoutIsReadAgain}
 use Rattle.edi_record.specs.declared.record.Record.{Record}
@@ -80,16 +80,16 @@ set_found None zs h = ap (λ t. first (map (λ (e : ZoneData). e.value) t)) (non
 set_found (Some text) zs h = refl
 
 -- each record states what it is settled as, and is cut off well
-each_stated : (s : Letters) (rs : List Record) → AllByRecursion IsRecord rs → AllByRecursion (λ r. IsCut (zones_of_record s r) × ReadsAs (zones_of_record s r) (settled_record s r)) rs
+each_stated : (s : Letters) (rs : List Record) → AllByRecursion IsRecord rs → AllByRecursion (λ r. IsCut (zones_of_record s r) × ReadsAsRecord (zones_of_record s r) (settled_record s r)) rs
 each_stated s [] h = tt
 each_stated s (r ∷ rs) h = ((record_cut s r h.0, record_again s r h.0), each_stated s rs h.1)
 
-behind_set : (cse : Option (List ℕ)) (n : ℕ) (zs : List ZoneData) (rs : List Record) → ((m : ℕ) → AllZip ReadsAs (groups_of (line_numbered m zs)) rs) → AllZip ReadsAs (groups_of (line_numbered n (map cse_zone (option_to_list cse) ++ zs))) rs
+behind_set : (cse : Option (List ℕ)) (n : ℕ) (zs : List ZoneData) (rs : List Record) → ((m : ℕ) → AllZip ReadsAsRecord (groups_of (line_numbered m zs)) rs) → AllZip ReadsAsRecord (groups_of (line_numbered n (map cse_zone (option_to_list cse) ++ zs))) rs
 behind_set None n zs rs more = more n
 behind_set (Some text) n zs rs more = more (n + length (lines_of_zone (cse_zone text)))
 
 pub sheet_again : (s : Letters) (cse : Option (List ℕ)) (rs : List Record) → AllByRecursion IsPrintable (zones_of_sheet s cse rs) → AllByRecursion IsRecord rs
-    → (option_map (λ (e : ZoneData). e.value) (charset_of (zones_of (records_layout s cse rs))) ≡ cse) × AllZip ReadsAs (groups_of (zones_of (records_layout s cse rs))) (map (settled_record s) rs)
+    → (option_map (λ (e : ZoneData). e.value) (charset_of (zones_of (records_layout s cse rs))) ≡ cse) × AllZip ReadsAsRecord (groups_of (zones_of (records_layout s cse rs))) (map (settled_record s) rs)
 sheet_again s cse rs p h =
     let body = flat_map (zones_of_record s) rs ++ end_zone ∷ [] in
     let zones = printed_again (zones_of_sheet s cse rs) p in (
@@ -97,7 +97,7 @@ sheet_again s cse rs p h =
           ∙ first_value (filter (has_code (codes "CSE")) (line_numbered 1 (zones_of_sheet s cse rs)))
           ∙ ap first (same_values (codes "CSE") 1 (zones_of_sheet s cse rs))
           ∙ set_found cse body (no_sets s rs h),
-      subst (λ zs. AllZip ReadsAs (groups_of zs) (map (settled_record s) rs)) (sym zones)
+      subst (λ zs. AllZip ReadsAsRecord (groups_of zs) (map (settled_record s) rs)) (sym zones)
           (behind_set cse (1 + length (lines_of_zone begin_zone)) body (map (settled_record s) rs)
           (λ m. (groups_state (zones_of_record s) (settled_record s) rs m end_zone (each_stated s rs h) refl refl).1)),
     )

@@ -12,10 +12,10 @@ use Rattle.edi_line.specs.Printing.{zone_text}
 use Rattle.edi_line.proofs.NumberRead.{number_is}
 use Rattle.edi_line.proofs.Spelled.{signed_text_read, plain_text_read}
 use Rattle.edi_record.specs.Texts.{PointerText, pointer_text, third_text, point_text}
-use Rattle.edi_record.specs.inner.Texts.{pointer, class_of, point}
+use Rattle.edi_record.specs.inner.Texts.{pointer, class_of, point_in}
 use Rattle.edi_record.specs.Shapes.{kind_code}
 use Rattle.edi_record.specs.Records.{values, has_points, is_link, opens, closes, points_at, known_anywhere, known_in, is_known, may_be_number}
-use Rattle.edi_record.specs.inner.Records.{set_after, value_after, attributes, sns_after, end_of, ends, Placed, placed, is_extra, value_of, extra, extras, ReadsAs}
+use Rattle.edi_record.specs.inner.Records.{set_after, value_after, attributes, sns_after, end_with_sense, ends, Placed, zones_placed, is_extra, value_of, extra, extras, ReadsAsRecord}
 use Rattle.edi_record.specs.CanonicalZones.{class_text, value_text, point_zone, set_zone, extra_zone, end_text, sns_zone}
 use Rattle.edi_record.specs.RecordLayout.{Letters, zones_of_attribute, zones_of_end, count_zones, zones_of_body, zones_of_record, IsOwnValue, IsExtra, IsName, IsPoint, IsRecord, settled, settled_end, settled_record}
 use Rattle.edi_record.specs.declared.name.Name.{Name}
@@ -40,11 +40,11 @@ pointer_again : (p : PointerText) → IsPart p.lot → IsPart p.subset → IsPar
 unfolding pointer_text
 pointer_again p lot subset rty rid = (pointer_is (pointer_text p) p).1 (record { is = refl; lot_part = lot; subset_part = subset; rty_part = rty; rid_part = rid })
 
-point_again : (p : Point) → IsPoint p → point (point_text p) ≡ Some p
+point_again : (p : Point) → IsPoint p → point_in (point_text p) ≡ Some p
 unfolding point_text
 point_again p h = by_third p.z h.z
   where
-    by_third : (z : Option ℤ) → IfSome z (λ n. size_of n ≤ MOST) → point (signed_text p.x ++ 59 ∷ (signed_text p.y ++ 59 ∷ third_text z)) ≡ Some (record { x = p.x; y = p.y; z = z })
+    by_third : (z : Option ℤ) → IfSome z (λ n. size_of n ≤ MOST) → point_in (signed_text p.x ++ 59 ∷ (signed_text p.y ++ 59 ∷ third_text z)) ≡ Some (record { x = p.x; y = p.y; z = z })
     by_third None k = (place_is _ (record { x = p.x; y = p.y; z = None })).1 (record {
       numbers = signed_text p.x ∷ signed_text p.y ∷ [];
       is = inr (sym (append_assoc (signed_text p.x) (59 ∷ signed_text p.y) (59 ∷ [])));
@@ -189,7 +189,7 @@ skip_extras rty [] h = refl
 skip_extras rty (e ∷ xs) h = let u = unknown rty e h.0 in rw u.1.1.1.1.0 (skip_extras rty xs h.1)
 
 picked : Kind → List ZoneData → List Placed
-picked rty zs = filter (is_extra rty) (placed false zs)
+picked rty zs = filter (is_extra rty) (zones_placed false zs)
 
 pub and_false : (b : Bool) → (b && false) ≡ false
 and_false true = refl
@@ -202,7 +202,7 @@ record IsPlain (kind : Kind) (z : ZoneData) : Type 0 where
   closes_none : closes z ≡ false
 
 pick_plain : (kind : Kind) (zs rest : List ZoneData) → AllByRecursion (IsPlain kind) zs → picked kind (zs ++ rest) ≡ picked kind rest
-unfolding picked placed
+unfolding picked zones_placed
 pick_plain kind [] rest h = refl
 pick_plain kind (z ∷ zs) rest h = rw (and_false (has_code (codes "TEX") z), h.0.known, h.0.opens_none, h.0.closes_none) (pick_plain kind zs rest h.1)
 
@@ -222,7 +222,7 @@ plain_body Fea points ends p e = rw (p refl, e refl) tt
 plain_body Lnk points ends p e = rw (p refl) (record { known = refl; opens_none = refl; closes_none = refl }, plain_ends ends)
 
 pick_attribute : (s : Letters) (rty : Kind) (a : Attribute) (rest : List ZoneData) → picked rty (zones_of_attribute s a ++ rest) ≡ picked rty rest
-unfolding picked placed zones_of_attribute
+unfolding picked zones_placed zones_of_attribute
 pick_attribute s rty a rest = by_set a.tex
   where
     by_set : (tex : Option (List ℕ)) → picked rty ((zone_text (codes "ATP") 67 80 (class_text a.atp) ∷ map set_zone (option_to_list tex) ++ zone_text (codes "ATV") 83 (s.letter a.atp) (value_text (value_of (s.is_number a.atp) a.atv)) ∷ []) ++ rest) ≡ picked rty rest
@@ -240,8 +240,8 @@ unfolding zones_of_record behind
 record_is s r = refl
 
 -- the extras among the zones of a record are those that it prints last
-pub picked_extras : (s : Letters) (r : Record) → IsRecord r → filter (is_extra r.kind) (placed false (zones_of_record s r)) ≡ filter (is_extra r.kind) (placed false (map extra_zone r.extras))
-unfolding picked placed behind
+pub picked_extras : (s : Letters) (r : Record) → IsRecord r → filter (is_extra r.kind) (zones_placed false (zones_of_record s r)) ≡ filter (is_extra r.kind) (zones_placed false (map extra_zone r.extras))
+unfolding picked zones_placed behind
 picked_extras s r h =
     ap (picked r.kind) (record_is s r)
     ∙ pick_plain r.kind (zones_of_body r.kind r.points r.ends) (behind s r) (plain_body r.kind r.points r.ends h.no_points h.no_ends) ∙ pick_attributes s r.kind r.attributes (map extra_zone r.extras)
@@ -250,7 +250,7 @@ extra_again : (rty : Kind) (e : Extra) → IsExtra rty e → extra (extra_zone e
 extra_again rty e h = ap (λ v. let x : Extra = record { code = e.code; nature = e.nature; format = e.format; value = v } in x) (own_again (may_be_number e.format) e.value h.own)
 
 extras_again : (rty : Kind) (xs : List Extra) → AllByRecursion (IsExtra rty) xs → map (λ (p : Placed). extra p.zone) (picked rty (map extra_zone xs)) ≡ xs
-unfolding picked placed
+unfolding picked zones_placed
 extras_again rty [] h = refl
 extras_again rty (e ∷ xs) h =
     let u = unknown rty e h.0 in
@@ -261,7 +261,7 @@ extras_again rty (e ∷ xs) h =
 s_part : IsPart (codes "S")
 s_part = All-from_recursion (λ b. eqb b 59 ≡ false) (codes "S") (refl, tt)
 
-target_again : (e : End) → IsName e.target → end_of (end_text e.target) e.sns ≡ Some (settled_end e)
+target_again : (e : End) → IsName e.target → end_with_sense (end_text e.target) e.sns ≡ Some (settled_end e)
 target_again e h = rw (pointer_again (record { lot = codes "CANON"; subset = codes "S"; rty = e.target.rty; rid = e.target.rid }) canon_part s_part h.rty h.rid) refl
 
 -- a zone that is no end and no SNS
@@ -287,7 +287,7 @@ end_again : (e : End) (rest : List ZoneData) → IsName e.target → sns_after r
 unfolding ends zones_of_end sns_after
 end_again e rest h none = by_sns e.sns (target_again e h)
   where
-    by_sns : (sns : Option (List ℕ)) → end_of (end_text e.target) sns ≡ Some (record { lot = codes "CANON"; subset = codes "S"; target = e.target; sns = sns })
+    by_sns : (sns : Option (List ℕ)) → end_with_sense (end_text e.target) sns ≡ Some (record { lot = codes "CANON"; subset = codes "S"; target = e.target; sns = sns })
         → ends ((zone_text (codes "FTP") 67 80 (end_text e.target) ∷ map sns_zone (option_to_list sns)) ++ rest) ≡ Some (record { lot = codes "CANON"; subset = codes "S"; target = e.target; sns = sns }) ∷ ends rest
     by_sns None t = rw (none, t) refl
     by_sns (Some text) t = rw t refl
@@ -329,7 +329,7 @@ cor_found kind points ends =
     filter-append (has_code (codes "COR")) (count_zones kind (length points) (length ends)) _
     ∙ rw (no_count kind (length points) (length ends), filter-append (has_code (codes "COR")) (map point_zone points) (flat_map zones_of_end ends), all_points points, no_end_cor ends) (append-nil (map point_zone points))
 
-points_again : (xs : List Point) → AllByRecursion IsPoint xs → map point (map (λ (z : ZoneData). z.value) (map point_zone xs)) ≡ map Some xs
+points_again : (xs : List Point) → AllByRecursion IsPoint xs → map point_in (map (λ (z : ZoneData). z.value) (map point_zone xs)) ≡ map Some xs
 points_again [] h = refl
 points_again (x ∷ xs) h = rw (point_again x h.0, points_again xs h.1) refl
 
@@ -352,14 +352,14 @@ no_end_apart Par t e h = absurd cc
 no_end_apart Pfe t e h = absurd cc
 no_end_apart Fea t e h = absurd cc
 
-points_stated : (s : Letters) (r : Record) → IsRecord r → cond (has_points r.kind) (map point (values (codes "COR") (zones_of_record s r))) [] ≡ map Some r.points
+points_stated : (s : Letters) (r : Record) → IsRecord r → cond (has_points r.kind) (map point_in (values (codes "COR") (zones_of_record s r))) [] ≡ map Some r.points
 points_stated s r h = go (has_points r.kind) refl
   where
-    go : (t : Bool) → has_points r.kind ≡ t → cond t (map point (values (codes "COR") (zones_of_record s r))) [] ≡ map Some r.points
+    go : (t : Bool) → has_points r.kind ≡ t → cond t (map point_in (values (codes "COR") (zones_of_record s r))) [] ≡ map Some r.points
     go true t =
         let none = none_found (has_code (codes "COR")) (behind s r) (behind_each (λ z. has_code (codes "COR") z ≡ false) (record { atc = λ _. refl; atp = λ _. refl; tex = λ _. refl; atv = λ _ _. refl }) s r (cor_apart r.kind t) h) in
         let all : filter (has_code (codes "COR")) (zones_of_body r.kind r.points r.ends ++ behind s r) ≡ map point_zone r.points = filter-append (has_code (codes "COR")) (zones_of_body r.kind r.points r.ends) (behind s r) ∙ rw (none, cor_found r.kind r.points r.ends) (append-nil (map point_zone r.points)) in
-        ap (λ zs. map point (values (codes "COR") zs)) (record_is s r) ∙ ap (λ (zs : List ZoneData). map point (map (λ z. z.value) zs)) all ∙ points_again r.points h.points
+        ap (λ zs. map point_in (values (codes "COR") zs)) (record_is s r) ∙ ap (λ (zs : List ZoneData). map point_in (map (λ z. z.value) zs)) all ∙ points_again r.points h.points
     go false t = rw (h.no_points t) refl
 
 skip_count : (points : List Point) (xs : List End) (rest : List ZoneData) → points ≡ [] → ends (zones_of_body Lnk points xs ++ rest) ≡ ends (flat_map zones_of_end xs ++ rest)
@@ -397,14 +397,14 @@ attributes_stated s r h =
     ∙ rw (skip_extras r.kind r.extras h.extras) (append-nil (map Some (map (settled s) r.attributes)))
 
 extras_stated : (s : Letters) (r : Record) → IsRecord r → extras r.kind (zones_of_record s r) ≡ r.extras
-unfolding picked placed behind
+unfolding picked zones_placed behind
 extras_stated s r h =
     ap (λ zs. extras r.kind zs) (record_is s r)
     ∙ ap (map (λ (p : Placed). extra p.zone)) (pick_plain r.kind (zones_of_body r.kind r.points r.ends) (behind s r) (plain_body r.kind r.points r.ends h.no_points h.no_ends) ∙ pick_attributes s r.kind r.attributes (map extra_zone r.extras))
     ∙ extras_again r.kind r.extras h.extras
 
 -- The zones of a record state it, with its ends and values as they are written.
-pub record_again : (s : Letters) (r : Record) → IsRecord r → ReadsAs (zones_of_record s r) (settled_record s r)
+pub record_again : (s : Letters) (r : Record) → IsRecord r → ReadsAsRecord (zones_of_record s r) (settled_record s r)
 record_again s r h = record {
   type = ap (values (codes "RTY")) (record_is s r) ∙ ap (λ t. kind_code r.kind ∷ t) (nothing_found s r (codes "RTY") (record { ptc = λ _. refl; ftc = λ _. refl; cor = λ _. refl; ftp = λ _. refl; sns = λ _. refl }) (record { atc = λ _. refl; atp = λ _. refl; tex = λ _. refl; atv = λ _ _. refl }) (λ e k. (unknown r.kind e k).0) h);
   rid = ap (values (codes "RID")) (record_is s r) ∙ ap (λ t. r.rid ∷ t) (nothing_found s r (codes "RID") (record { ptc = λ _. refl; ftc = λ _. refl; cor = λ _. refl; ftp = λ _. refl; sns = λ _. refl }) (record { atc = λ _. refl; atp = λ _. refl; tex = λ _. refl; atv = λ _ _. refl }) (λ e k. (unknown r.kind e k).1.0) h);

@@ -10,8 +10,8 @@ use Rattle.edi_line.specs.Made.{AreMadeFrom}
 use Rattle.edi_line.proofs.Numbers.{number_unique}
 use Rattle.edi_record.specs.Records.{values, has_points, is_link, IsOpen, opens, closes, IsAttributeAt, points_at, IsEndAt, IsExtraAt, IsValueOf, may_be_number, IsExtraOf, States}
 use Rattle.edi_record.specs.Texts.{PointerText, IsPointer, PointsTo, IsPosition}
-use Rattle.edi_record.specs.inner.Records.{ReadsAs, Placed, placed, is_open_after, is_extra, value_of, extra, extras, attributes, ends}
-use Rattle.edi_record.specs.inner.Texts.{pointer, class_of, point}
+use Rattle.edi_record.specs.inner.Records.{ReadsAsRecord, Placed, zones_placed, is_open_after, is_extra, value_of, extra, extras, attributes, ends}
+use Rattle.edi_record.specs.inner.Texts.{pointer, class_of, point_in}
 use Rattle.edi_record.specs.declared.name.Name.{Name}
 use Rattle.edi_record.specs.declared.record.Attribute.{Attribute}
 use Rattle.edi_record.specs.declared.record.End.{End}
@@ -254,18 +254,18 @@ test_extra kind b front z says h =
     rw (set, h.unknown) refl
 
 abbrev extras_from : Kind → Bool → List ZoneData → List Extra
-extras_from kind b group = map (λ (p : Placed). extra p.zone) (filter (is_extra kind) (placed b group))
+extras_from kind b group = map (λ (p : Placed). extra p.zone) (filter (is_extra kind) (zones_placed b group))
 
 extras_end : (kind : Kind) (b : Bool) → extras_from kind b [] ≡ []
-unfolding placed
+unfolding zones_placed
 extras_end kind b = refl
 
 extras_here : (kind : Kind) (b : Bool) (z : ZoneData) (zs : List ZoneData) → is_extra kind (record { open_before = b; zone = z }) ≡ true → extras_from kind b (z ∷ zs) ≡ extra z ∷ extras_from kind (is_open_after b z) zs
-unfolding placed
+unfolding zones_placed
 extras_here kind b z zs e = rw e refl
 
 extras_skip : (kind : Kind) (b : Bool) (z : ZoneData) (zs : List ZoneData) → is_extra kind (record { open_before = b; zone = z }) ≡ false → extras_from kind b (z ∷ zs) ≡ extras_from kind (is_open_after b z) zs
-unfolding placed
+unfolding zones_placed
 extras_skip kind b z zs e = rw e refl
 
 extras_said : (kind : Kind) (b : Bool) (front group : List ZoneData) → SaysOpen b front → AreMadeFrom (IsExtraAt kind) IsExtraOf front group (extras_from kind b group)
@@ -288,7 +288,7 @@ class_said [] name e = absurd cc
 class_said (text ∷ []) name e = (text, refl, points_said text name cc)
 class_said (text ∷ other ∷ texts) name e = absurd cc
 
-points_chosen : (b : Bool) (texts : List (List ℕ)) → cond b (map point texts) [] ≡ map point (cond b texts [])
+points_chosen : (b : Bool) (texts : List (List ℕ)) → cond b (map point_in texts) [] ≡ map point_in (cond b texts [])
 points_chosen true texts = refl
 points_chosen false texts = refl
 
@@ -296,23 +296,23 @@ ends_chosen : (b : Bool) (group : List ZoneData) → cond b (ends group) [] ≡ 
 ends_chosen true group = refl
 ends_chosen false group = sym ends_made.none
 
-pub states_said : (group : List ZoneData) (r : Record) → ReadsAs group r → States group r
+pub states_said : (group : List ZoneData) (r : Record) → ReadsAsRecord group r → States group r
 states_said group r h = record {
   type = h.type;
   rid = h.rid;
   scp = class_said (values (codes "SCP") group) r.scp h.scp;
-  points = zip_found point IsPosition (λ text p e. (place_is text p).0 e) (cond (has_points r.kind) (values (codes "COR") group) []) r.points (sym (points_chosen (has_points r.kind) (values (codes "COR") group)) ∙ h.points);
+  points = zip_found point_in IsPosition (λ text p e. (place_is text p).0 e) (cond (has_points r.kind) (values (codes "COR") group) []) r.points (sym (points_chosen (has_points r.kind) (values (codes "COR") group)) ∙ h.points);
   ends = made_said points_at end_in ends ends_made IsEndAt end_said [] (cond (is_link r.kind) group []) r.ends (sym (ends_chosen (is_link r.kind) group) ∙ h.ends);
   attributes = made_said opens attribute_in attributes attributes_made IsAttributeAt attribute_said [] group r.attributes h.attributes;
   extras = subst (AreMadeFrom (IsExtraAt r.kind) IsExtraOf [] group) h.extras (extras_said r.kind false [] group open_none);
 }
 
-pub states_read : (group : List ZoneData) (r : Record) → States group r → ReadsAs group r
+pub states_read : (group : List ZoneData) (r : Record) → States group r → ReadsAsRecord group r
 states_read group r h = record {
   type = h.type;
   rid = h.rid;
   scp = ap (map class_of) h.scp.1 ∙ ap (λ o. o ∷ []) (points_read h.scp.0 r.scp h.scp.2);
-  points = points_chosen (has_points r.kind) (values (codes "COR") group) ∙ found_zip point IsPosition (λ text p s. (place_is text p).1 s) (cond (has_points r.kind) (values (codes "COR") group) []) r.points h.points;
+  points = points_chosen (has_points r.kind) (values (codes "COR") group) ∙ found_zip point_in IsPosition (λ text p s. (place_is text p).1 s) (cond (has_points r.kind) (values (codes "COR") group) []) r.points h.points;
   ends = ends_chosen (is_link r.kind) group ∙ made_read points_at end_in ends ends_made IsEndAt end_read [] (cond (is_link r.kind) group []) r.ends h.ends;
   attributes = made_read opens attribute_in attributes attributes_made IsAttributeAt attribute_read [] group r.attributes h.attributes;
   extras = extras_read r.kind group r.extras h.extras;
@@ -321,13 +321,13 @@ states_read group r h = record {
 pub states_unique : (group : List ZoneData) (r q : Record) → States group r → States group q → r ≡ q
 states_unique group r q h k = states_one group r q (states_read group r h) (states_read group q k)
 
-pub all_said : (groups : List (List ZoneData)) (list : List Record) → AllZip ReadsAs groups list → AllZip States groups list
+pub all_said : (groups : List (List ZoneData)) (list : List Record) → AllZip ReadsAsRecord groups list → AllZip States groups list
 all_said [] [] h = tt
 all_said [] (r ∷ list) h = absurd h
 all_said (g ∷ groups) [] h = absurd h
 all_said (g ∷ groups) (r ∷ list) h = (states_said g r h.0, all_said groups list h.1)
 
-pub all_read : (groups : List (List ZoneData)) (list : List Record) → AllZip States groups list → AllZip ReadsAs groups list
+pub all_read : (groups : List (List ZoneData)) (list : List Record) → AllZip States groups list → AllZip ReadsAsRecord groups list
 all_read [] [] h = tt
 all_read [] (r ∷ list) h = absurd h
 all_read (g ∷ groups) [] h = absurd h

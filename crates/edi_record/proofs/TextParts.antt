@@ -11,7 +11,7 @@ use Rattle.std.proofs.lemmas.List.Sums.{fails_before_first}
 use Rattle.edi_line.proofs.Numbers.{position_at_Some, position_at_None}
 use Rattle.edi_line.proofs.NumberRead.{number_is, number_lacks, number_says, same_number}
 use Rattle.edi_record.specs.Texts.{shown, is_semicolon, PointerText, IsPointer, coordinates, IsPosition}
-use Rattle.edi_record.specs.inner.Texts.{parts, pointer_of, pointer, flat_place, high_place, point_of, point, last_part, AreCut}
+use Rattle.edi_record.specs.inner.Texts.{parts, pointer_of, pointer, flat_place, high_place, point_of, point_in, last_part, AreCut}
 use Rattle.edi_record.specs.declared.record.Point.{Point}
 use Rattle.edi_record.specs.declared.pointer.Pointer.{Pointer}
 
@@ -107,8 +107,8 @@ closed_again text a b e = e ∙ sym (append_assoc a (59 ∷ b) (59 ∷ []))
 closed_again_3 : (text a b c : List ℕ) → text ≡ a ++ 59 ∷ (b ++ 59 ∷ (c ++ 59 ∷ [])) → text ≡ (a ++ 59 ∷ (b ++ 59 ∷ c)) ++ 59 ∷ []
 closed_again_3 text a b c e = e ∙ simp append_assoc
 
-place_here : (text : List ℕ) (p : Point) → point text ≡ Some p → IsPosition text p
-unfolding point
+place_here : (text : List ℕ) (p : Point) → point_in text ≡ Some p → IsPosition text p
+unfolding point_in
 place_here text p e = go (parts text) refl e
   where
     go : (ps : List (List ℕ)) → parts text ≡ ps → point_of ps ≡ Some p → IsPosition text p
@@ -190,11 +190,11 @@ read_from text (a ∷ b ∷ []) x y (Some z) is h = absurd h.1.1
 read_from text (a ∷ b ∷ c ∷ ns) x y None is h = absurd h.1.1
 read_from text (a ∷ b ∷ c ∷ d ∷ ns) x y (Some z) is h = absurd h.1.1.1
 
-place_read : (text : List ℕ) (p : Point) → IsPosition text p → point text ≡ Some p
-unfolding point
+place_read : (text : List ℕ) (p : Point) → IsPosition text p → point_in text ≡ Some p
+unfolding point_in
 place_read text p h = read_from text h.numbers p.x p.y p.z h.is h.say
 
-pub place_is : (text : List ℕ) (p : Point) → point text ≡ Some p ↔ IsPosition text p
+pub place_is : (text : List ℕ) (p : Point) → point_in text ≡ Some p ↔ IsPosition text p
 place_is text p = (place_here text p, place_read text p)
 
 -- ---- the first cut
@@ -267,20 +267,20 @@ more_left text p q e some = rw e (go (parts q) refl)
     go ([] ∷ r ∷ rs) f = refl
     go ((c ∷ cs) ∷ r ∷ rs) f = refl
 
-pub no_coordinates : (text : List ℕ) → AreCut text None → None ≡ point text
-unfolding point
+pub no_coordinates : (text : List ℕ) → AreCut text None → None ≡ point_in text
+unfolding point_in
 no_coordinates text e = rw e refl
 
-pub two_open : (text x r : List ℕ) → AreCut text (Some (x, r)) → AreCut r None → flat_place (number x) (number r) ≡ point text
-unfolding point
+pub two_open : (text x r : List ℕ) → AreCut text (Some (x, r)) → AreCut r None → flat_place (number x) (number r) ≡ point_in text
+unfolding point_in
 two_open text x r e f = rw (e, f) refl
 
-pub two_closed : (text x r y t : List ℕ) → AreCut text (Some (x, r)) → AreCut r (Some (y, t)) → t ≡ [] → flat_place (number x) (number y) ≡ point text
-unfolding point
+pub two_closed : (text x r y t : List ℕ) → AreCut text (Some (x, r)) → AreCut r (Some (y, t)) → t ≡ [] → flat_place (number x) (number y) ≡ point_in text
+unfolding point_in
 two_closed text x r y t e f g = rw (e, f, g) refl
 
-pub three_open : (text x r y t z : List ℕ) → AreCut text (Some (x, r)) → AreCut r (Some (y, t)) → (t ≡ [] → ⊥) → Some z ≡ last_part (parts t) → high_place (number x) (number y) (number z) ≡ point text
-unfolding point
+pub three_open : (text x r y t z : List ℕ) → AreCut text (Some (x, r)) → AreCut r (Some (y, t)) → (t ≡ [] → ⊥) → Some z ≡ last_part (parts t) → high_place (number x) (number y) (number z) ≡ point_in text
+unfolding point_in
 three_open text x r y t z e f some l = rw (e, f) (go (parts t) refl l)
   where
     go : (ps : List (List ℕ)) → parts t ≡ ps → Some z ≡ last_part ps → high_place (number x) (number y) (number z) ≡ point_of (x ∷ y ∷ ps)
@@ -292,8 +292,8 @@ three_open text x r y t z e f some l = rw (e, f) (go (parts t) refl l)
     go (w ∷ [] ∷ v ∷ vs) g l = absurd cc
     go (w ∷ (c ∷ cs) ∷ v ∷ vs) g l = absurd cc
 
-pub no_third : (text x r y t : List ℕ) → AreCut text (Some (x, r)) → AreCut r (Some (y, t)) → (t ≡ [] → ⊥) → None ≡ last_part (parts t) → None ≡ point text
-unfolding point
+pub no_third : (text x r y t : List ℕ) → AreCut text (Some (x, r)) → AreCut r (Some (y, t)) → (t ≡ [] → ⊥) → None ≡ last_part (parts t) → None ≡ point_in text
+unfolding point_in
 no_third text x r y t e f some l = rw (e, f) (go (parts t) refl l)
   where
     go : (ps : List (List ℕ)) → parts t ≡ ps → None ≡ last_part ps → None ≡ point_of (x ∷ y ∷ ps)

@@ -1,11 +1,11 @@
 -- A group of zones states one record at most.
 use Rattle.std.proofs.Common.{◌≡◌, cond, List, [], ◌∷◌, map, Option, Some, codes, refl, sym, ap, ◌∙◌}
 use Rattle.edi_line.specs.ZoneData.{ZoneData}
-use Rattle.edi_record.specs.inner.Texts.{point}
+use Rattle.edi_record.specs.inner.Texts.{point_in}
 use Rattle.edi_record.specs.Shapes.{kind_code}
 use Rattle.edi_record.specs.inner.RecordRules.{kind_named}
 use Rattle.edi_record.specs.Records.{values, has_points, is_link}
-use Rattle.edi_record.specs.inner.Records.{ends, extras, ReadsAs}
+use Rattle.edi_record.specs.inner.Records.{ends, extras, ReadsAsRecord}
 use Rattle.edi_record.specs.declared.record.Kind.{Kind}
 use Rattle.edi_record.specs.declared.record.Kind.TheVariants.{Pno, Par, Pfe, Fea, Lnk}
 use Rattle.edi_record.specs.declared.record.Record.{Record}
@@ -26,13 +26,13 @@ kind_again Lnk = refl
 same_kind : (a b : Kind) → kind_code a ≡ kind_code b → a ≡ b
 same_kind a b e = let s : ◌≡◌ {A = Option Kind} (Some a) (Some b) = sym (kind_again a) ∙ ap kind_named e ∙ kind_again b in cc
 
-pub states_one : (group : List ZoneData) (r q : Record) → ReadsAs group r → ReadsAs group q → r ≡ q
+pub states_one : (group : List ZoneData) (r q : Record) → ReadsAsRecord group r → ReadsAsRecord group q → r ≡ q
 states_one group r q h k =
     let code : kind_code r.kind ≡ kind_code q.kind = cc (h.type, k.type) in
     let kind : r.kind ≡ q.kind = same_kind r.kind q.kind code in
     let rid : r.rid ≡ q.rid = cc (h.rid, k.rid) in
     let scp : r.scp ≡ q.scp = cc (h.scp, k.scp) in
-    let points : r.points ≡ q.points = some_lists r.points q.points (sym h.points ∙ ap (λ t. cond (has_points t) (map point (values (codes "COR") group)) []) kind ∙ k.points) in
+    let points : r.points ≡ q.points = some_lists r.points q.points (sym h.points ∙ ap (λ t. cond (has_points t) (map point_in (values (codes "COR") group)) []) kind ∙ k.points) in
     let linked : r.ends ≡ q.ends = some_lists r.ends q.ends (sym h.ends ∙ ap (λ t. cond (is_link t) (ends group) []) kind ∙ k.ends) in
     let attrs : r.attributes ≡ q.attributes = some_lists r.attributes q.attributes (sym h.attributes ∙ k.attributes) in
     let es : r.extras ≡ q.extras = sym h.extras ∙ ap (λ t. extras t group) kind ∙ k.extras in

@@ -6,11 +6,11 @@ use Rattle.edi_line.specs.ZoneData.{ZoneData, has_code, first}
 use Rattle.edi_line.specs.Refusal.{test}
 use Rattle.edi_line.specs.Zones.{begins_group, ends_group, before_end, groups_of}
 use Rattle.edi_line.specs.Printing.{at_line, lines_of_zone, line_numbered}
-use Rattle.edi_record.specs.inner.Texts.{pointer, point}
+use Rattle.edi_record.specs.inner.Texts.{pointer, point_in}
 use Rattle.edi_record.specs.Records.{values, has_points, is_link, opens, closes, points_at}
-use Rattle.edi_record.specs.inner.Records.{Placed, is_open_after, placed}
+use Rattle.edi_record.specs.inner.Records.{Placed, is_open_after, zones_placed}
 use Rattle.edi_record.specs.RecordRules.{just_one, is_identifier, has_no_identifier}
-use Rattle.edi_record.specs.inner.RecordRules.{kind_named, kind_in, in_kind, is_node, is_arc, some_no_pointer, count_until, repeats, counts_right, counts_wrong, is_unknown_pointer, has_no_kind, has_no_class, has_bad_attribute, has_wrong_count, has_bad_point, has_bad_end, has_unknown_pointer, record_tests}
+use Rattle.edi_record.specs.inner.RecordRules.{kind_named, kind_in, in_kind, is_node, is_arc_kind, some_no_pointer, count_until, repeats_code, counts_right, counts_wrong, is_unknown_pointer, has_no_kind, has_no_class, has_bad_attribute, has_wrong_count, has_bad_point, has_bad_end, has_unknown_pointer, record_tests}
 use Rattle.edi_record.specs.declared.record.Kind.{Kind}
 use Rattle.edi_record.specs.inner.Stored.{is_stray, has_stray}
 use Rattle.edi_record.proofs.Loops.{stray_sns_goes_on}
@@ -36,15 +36,15 @@ bare_count : (p : ZoneData → Bool) → IsBlind p → (code : List ℕ) (zs : L
 bare_count p blind code [] = refl
 bare_count p blind code (z ∷ zs) = rw (blind z, bare_count p blind code zs) refl
 
-bare_repeats : (p q : ZoneData → Bool) → IsBlind p → IsBlind q → (code : List ℕ) (zs : List ZoneData) → repeats p q code (bare zs) ≡ repeats p q code zs
+bare_repeats : (p q : ZoneData → Bool) → IsBlind p → IsBlind q → (code : List ℕ) (zs : List ZoneData) → repeats_code p q code (bare zs) ≡ repeats_code p q code zs
 bare_repeats p q blind_p blind_q code [] = refl
 bare_repeats p q blind_p blind_q code (z ∷ zs) = rw (blind_p z, bare_count q blind_q code zs, bare_repeats p q blind_p blind_q code zs) refl
 
 abbrev place_made : Bool → ZoneData → Placed
 place_made b z = record { open_before = b; zone = z }
 
-bare_placed : (p : Placed → Bool) → ((b : Bool) (z : ZoneData) → p (place_made b (at_line 0 z)) ≡ p (place_made b z)) → (b : Bool) (zs : List ZoneData) → list_any p (placed b (bare zs)) ≡ list_any p (placed b zs)
-unfolding placed
+bare_placed : (p : Placed → Bool) → ((b : Bool) (z : ZoneData) → p (place_made b (at_line 0 z)) ≡ p (place_made b z)) → (b : Bool) (zs : List ZoneData) → list_any p (zones_placed b (bare zs)) ≡ list_any p (zones_placed b zs)
+unfolding zones_placed
 bare_placed p blind b [] = refl
 bare_placed p blind b (z ∷ zs) = rw (blind b z, bare_placed p blind (is_open_after b z) zs) refl
 
@@ -85,18 +85,18 @@ bare_counts counting counted g =
 bare_attribute : (g : List ZoneData) → has_bad_attribute (bare g) ≡ has_bad_attribute g
 bare_attribute g =
     same_or (some_no_pointer (values (codes "ATP") (bare g))) _ (some_no_pointer (values (codes "ATP") g)) _ (ap some_no_pointer (bare_values (codes "ATP") g))
-    (same_or (list_any is_stray (placed false (bare g))) _ (list_any is_stray (placed false g)) _ (bare_placed is_stray (λ b z. refl) false g)
+    (same_or (list_any is_stray (zones_placed false (bare g))) _ (list_any is_stray (zones_placed false g)) _ (bare_placed is_stray (λ b z. refl) false g)
     (bare_repeats opens (λ z. opens z || closes z) (λ z. refl) (λ z. refl) (codes "TEX") g))
 
 bare_wrong_count : (g : List ZoneData) → has_wrong_count (bare g) ≡ has_wrong_count g
 bare_wrong_count g =
     same_or (counts_wrong (codes "ATC") (codes "ATP") (bare g)) _ (counts_wrong (codes "ATC") (codes "ATP") g) _ (bare_counts (codes "ATC") (codes "ATP") g)
-    (same_or (in_kind is_arc (bare g) && counts_wrong (codes "PTC") (codes "COR") (bare g)) _ (in_kind is_arc g && counts_wrong (codes "PTC") (codes "COR") g) _
-    (same_and (in_kind is_arc (bare g)) _ (in_kind is_arc g) _ (bare_in_kind is_arc is_arc g (λ kind. refl)) (bare_counts (codes "PTC") (codes "COR") g))
+    (same_or (in_kind is_arc_kind (bare g) && counts_wrong (codes "PTC") (codes "COR") (bare g)) _ (in_kind is_arc_kind g && counts_wrong (codes "PTC") (codes "COR") g) _
+    (same_and (in_kind is_arc_kind (bare g)) _ (in_kind is_arc_kind g) _ (bare_in_kind is_arc_kind is_arc_kind g (λ kind. refl)) (bare_counts (codes "PTC") (codes "COR") g))
     (same_and (in_kind is_link (bare g)) _ (in_kind is_link g) _ (bare_in_kind is_link is_link g (λ kind. refl)) (bare_counts (codes "FTC") (codes "FTP") g)))
 
 no_position : List (List ℕ) → Bool
-no_position texts = list_any (λ text. is_none (point text)) texts
+no_position texts = list_any (λ text. is_none (point_in text)) texts
 
 bare_point : (g : List ZoneData) → has_bad_point (bare g) ≡ has_bad_point g
 unfolding no_position
@@ -105,7 +105,7 @@ bare_point g =
     (same_and (in_kind has_points (bare g)) _ (in_kind has_points g) _ (bare_in_kind has_points has_points g (λ kind. refl)) (ap no_position (bare_values (codes "COR") g)))
     (same_or (in_kind is_node (bare g) && not (eqb (length (values (codes "COR") (bare g))) 1)) _ (in_kind is_node g && not (eqb (length (values (codes "COR") g)) 1)) _
     (same_and (in_kind is_node (bare g)) _ (in_kind is_node g) _ (bare_in_kind is_node is_node g (λ kind. refl)) (ap (λ vs. not (eqb (length vs) 1)) (bare_values (codes "COR") g)))
-    (same_and (in_kind is_arc (bare g)) _ (in_kind is_arc g) _ (bare_in_kind is_arc is_arc g (λ kind. refl)) (ap (λ vs. ltb (length vs) 2) (bare_values (codes "COR") g))))
+    (same_and (in_kind is_arc_kind (bare g)) _ (in_kind is_arc_kind g) _ (bare_in_kind is_arc_kind is_arc_kind g (λ kind. refl)) (ap (λ vs. ltb (length vs) 2) (bare_values (codes "COR") g))))
 
 bare_end : (g : List ZoneData) → has_bad_end (bare g) ≡ has_bad_end g
 bare_end g =
@@ -116,7 +116,7 @@ bare_end g =
 
 bare_pointer : (g : List ZoneData) → has_unknown_pointer (bare g) ≡ has_unknown_pointer g
 bare_pointer g =
-    bare_in_kind (λ kind. list_any (is_unknown_pointer kind) (placed false (bare g))) (λ kind. list_any (is_unknown_pointer kind) (placed false g)) g
+    bare_in_kind (λ kind. list_any (is_unknown_pointer kind) (zones_placed false (bare g))) (λ kind. list_any (is_unknown_pointer kind) (zones_placed false g)) g
     (λ kind. bare_placed (is_unknown_pointer kind) (λ b z. refl) false g)
 
 eight_tests : (a b c d e f g h i j k l m n o p : Bool) → a ≡ i → b ≡ j → c ≡ k → d ≡ l → e ≡ m → f ≡ n → g ≡ o → h ≡ p

@@ -41,14 +41,14 @@ impl<H: Drop, A: Drop, E: Drop> Drop for Block<H, A, E> {
 impl<H, A, E> Model for Block<H, A, E> {
     ghost use Rattle.std.specs.Prelude.{List};
     ghost use Rattle.edi_record.specs.AnyRecords.{AnyRecord};
-    ghost use Rattle.edi_record.specs.inner.FlatRecords.{no_stops, records_from, AreParts};
+    ghost use Rattle.edi_record.specs.inner.FlatRecords.{no_stops, records_from, FillLists};
     ghost use Rattle.edi_record.specs.inner.PartLists.{held};
 
     ghost Value = { List (AnyRecord H A E) };
 
     ghost view = { λ block. records_from (held block.lists) no_stops block.heads.items };
 
-    ghost invariant = { λ block. AreParts (held block.lists) no_stops block.heads.items };
+    ghost invariant = { λ block. FillLists (held block.lists) no_stops block.heads.items };
 }
 
 /// Where the parts of the record at a place begin.

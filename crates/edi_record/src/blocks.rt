@@ -2,7 +2,7 @@
 
 ghost use Rattle.std.specs.Prelude.{◌≡◌, ◌<◌, ◌%◌, ◌^◌, ◌∷◌, ◌++◌, [], length, slice_get, Some, IfOk, OnOk, OnErr};
 ghost use Rattle.edi_record.specs.AnyRecords.{any_record, record_lent, Parts};
-ghost use Rattle.edi_record.specs.inner.BlockLists.{joined, AreBlocks};
+ghost use Rattle.edi_record.specs.inner.BlockLists.{blocks_joined, AreBlocks};
 
 use crate::any_record::AnyRecordRef;
 use crate::block::Block;
@@ -27,24 +27,24 @@ pub struct Blocks<H, A, E> {
 impl<H, A, E> Model for Blocks<H, A, E> {
     ghost use Rattle.std.specs.Prelude.{List};
     ghost use Rattle.edi_record.specs.AnyRecords.{AnyRecord};
-    ghost use Rattle.edi_record.specs.inner.BlockLists.{joined, AreBlocks};
+    ghost use Rattle.edi_record.specs.inner.BlockLists.{blocks_joined, AreBlocks};
 
     ghost Value = { List (AnyRecord H A E) };
 
-    ghost view = { λ blocks. joined blocks.closed.items blocks.last };
+    ghost view = { λ blocks. blocks_joined blocks.closed.items blocks.last };
 
     ghost invariant = { λ blocks. AreBlocks blocks.closed.items blocks.last };
 }
 
 /// Puts the records of the last block into a closed one, if it is full.
-#[tactic(auto, unfolding(crate::specs::inner::BlockLists::joined))]
+#[tactic(auto, unfolding(crate::specs::inner::BlockLists::blocks_joined))]
 fn close_if_full<H: Drop, A: Drop, E: Drop>(
     alloc: Global,
     closed: &mut Vec<Block<H, A, E>>,
     last: &mut Block<H, A, E>,
 ) -> Result<(), AllocError>
     requires { AreBlocks closed.old.items last.old }
-    ensures same { joined closed.new.items last.new ≡ joined closed.old.items last.old }
+    ensures same { blocks_joined closed.new.items last.new ≡ blocks_joined closed.old.items last.old }
     ensures blocks { AreBlocks closed.new.items last.new }
     ensures short { OnOk result (length last.new < 256) }
 {
@@ -62,7 +62,7 @@ fn close_if_full<H: Drop, A: Drop, E: Drop>(
 
 impl<H: Drop, A: Drop, E: Drop> Blocks<H, A, E> {
     /// No records.
-    #[tactic(auto, unfolding(crate::specs::inner::BlockLists::joined))]
+    #[tactic(auto, unfolding(crate::specs::inner::BlockLists::blocks_joined))]
     pub(crate) fn new(alloc: Global) -> Blocks<H, A, E>
         ensures { result ≡ [] }
     {
@@ -74,7 +74,7 @@ impl<H: Drop, A: Drop, E: Drop> Blocks<H, A, E> {
     }
 
     /// No records, with room for so many.
-    #[tactic(auto, unfolding(crate::specs::inner::BlockLists::joined))]
+    #[tactic(auto, unfolding(crate::specs::inner::BlockLists::blocks_joined))]
     pub fn with_capacity(alloc: Global, records: usize) -> Result<Blocks<H, A, E>, AllocError>
         ensures { IfOk result (λ blocks. blocks ≡ []) }
     {
@@ -86,7 +86,7 @@ impl<H: Drop, A: Drop, E: Drop> Blocks<H, A, E> {
     }
 
     /// Adds a record. Its parts leave the lists that they are in.
-    #[tactic(auto, unfolding(crate::specs::inner::BlockLists::joined))]
+    #[tactic(auto, unfolding(crate::specs::inner::BlockLists::blocks_joined))]
     pub(crate) fn push(
         &mut self,
         head: H,
@@ -104,7 +104,7 @@ impl<H: Drop, A: Drop, E: Drop> Blocks<H, A, E> {
     }
 
     /// Adds a record whose points are copied. Its other parts leave the lists that they are in.
-    #[tactic(auto, unfolding(crate::specs::inner::BlockLists::joined))]
+    #[tactic(auto, unfolding(crate::specs::inner::BlockLists::blocks_joined))]
     pub fn push_beside(
         &mut self,
         head: H,

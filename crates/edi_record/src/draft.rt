@@ -6,9 +6,9 @@ ghost use Rattle.edi_line.specs.inner.Refusal.{first_broken};
 ghost use Rattle.edi_record.specs.inner.Texts.{pointer, class_of};
 ghost use Rattle.edi_record.specs.Shapes.{is_in_shape};
 ghost use Rattle.edi_record.specs.Records.{values, is_link};
-ghost use Rattle.edi_record.specs.inner.Records.{ReadsAs};
+ghost use Rattle.edi_record.specs.inner.Records.{ReadsAsRecord};
 ghost use Rattle.edi_record.specs.RecordRules.{just_one, is_identifier as is_identifier_text};
-ghost use Rattle.edi_record.specs.inner.RecordRules.{kind_in, is_arc, counts_right, record_tests};
+ghost use Rattle.edi_record.specs.inner.RecordRules.{kind_in, is_arc_kind, counts_right, record_tests};
 ghost use Rattle.edi_record.specs.inner.RecordRefusal.{IsGroupRefusal};
 ghost use Rattle.edi_record.specs.inner.Stored.{AreTexts, StoresRecord, kept};
 ghost use Rattle.edi_record.specs.inner.RecordParts.{AreEmpty, whole};
@@ -125,7 +125,7 @@ impl<'a> Draft<'a> {
     ) -> Result<RecordHead, GroupFault>
         ensures states { IfOk result (λ h. (group : List ZoneData) → length (values (codes "RTY") group) ≡ 1
             → kind_in group ≡ Some self.old.kind → StoresRecord (kept self.old parts.old) [] group
-            → ReadsAs group (whole h parts.new)) }
+            → ReadsAsRecord group (whole h parts.new)) }
         ensures shape { IfOk result (λ h. is_in_shape (whole h parts.new) ≡ true) }
         ensures sound { OnOk result ((group : List ZoneData) → kind_in group ≡ Some self.old.kind
             → StoresRecord (kept self.old parts.old) [] group → first_broken (record_tests group) ≡ None) }
@@ -186,10 +186,10 @@ fn class_pointer(stored: Only<'_>) -> Option<Pointer<'_>>
 
 /// Whether the count of an arc's points or of a link's ends is wrong.
 fn is_body_wrong(kind: Kind, count: Only<'_>, counted: usize) -> bool
-    ensures { (points ends : List (List ℕ)) → (is_arc kind ≡ true → AreTexts count.entry [] points)
+    ensures { (points ends : List (List ℕ)) → (is_arc_kind kind ≡ true → AreTexts count.entry [] points)
         → (is_link kind ≡ true → AreTexts count.entry [] ends)
         → result
-        ≡ ((is_arc kind && not (counts_right points counted)) || (is_link kind && not (counts_right ends counted))) }
+        ≡ ((is_arc_kind kind && not (counts_right points counted)) || (is_link kind && not (counts_right ends counted))) }
 {
     kind.has_count() && is_wrong(count, counted)
 }

@@ -5,10 +5,10 @@ ghost use Rattle.std.specs.List.{list_any, before_first};
 ghost use Rattle.edi_line.specs.ZoneData.{ZoneData, entry, entries, has_code};
 ghost use Rattle.edi_record.specs.Records.{values, points_at};
 ghost use Rattle.edi_record.specs.inner.GroupRules.{closes_by, repeats_from, stretch_with_one, bad_ends};
-ghost use Rattle.edi_record.specs.inner.Records.{placed, is_open_after, is_extra as is_extra_zone};
-ghost use Rattle.edi_record.specs.inner.RecordRules.{kind_in, has_no_kind, has_no_class, some_no_pointer as some_no_pointer_text, repeats as repeats_code, has_bad_attribute as bad_attribute, counts_wrong as counts_wrong_by, has_wrong_count as wrong_count, has_bad_point as bad_point, has_bad_end as bad_end, is_unknown_pointer, has_unknown_pointer as unknown_pointer};
+ghost use Rattle.edi_record.specs.inner.Records.{zones_placed, is_open_after, is_extra as is_extra_zone};
+ghost use Rattle.edi_record.specs.inner.RecordRules.{kind_in, has_no_kind, has_no_class, some_no_pointer as some_no_pointer_text, repeats_code as repeats_code, has_bad_attribute as bad_attribute, counts_wrong as counts_wrong_by, has_wrong_count as wrong_count, has_bad_point as bad_point, has_bad_end as bad_end, is_unknown_pointer, has_unknown_pointer as unknown_pointer};
 ghost use Rattle.edi_record.specs.inner.Stored.{AreTexts, is_stray};
-ghost use Rattle.edi_record.specs.inner.Texts.{pointer, point};
+ghost use Rattle.edi_record.specs.inner.Texts.{pointer, point_in};
 
 use crate::counts::is_wrong;
 use crate::extras::is_pointer;
@@ -99,7 +99,7 @@ fn some_no_pointer(zones: &[Zone<'_>], code: [u8; 3]) -> bool
 
 /// Whether the value of some zone with a code is no position.
 fn some_no_position(zones: &[Zone<'_>], code: [u8; 3]) -> bool
-    ensures { result ≡ list_any (λ text. is_none (point text)) (values code (entries zones.now)) }
+    ensures { result ≡ list_any (λ text. is_none (point_in text)) (values code (entries zones.now)) }
 {
     let mut left = zones;
     while let [zone, behind @ ..] = left {
@@ -212,7 +212,7 @@ fn is_stray_value(is_open: bool, zone: &Zone<'_>) -> bool
 
 /// Whether a value comes where no attribute is open.
 fn has_stray_value(group: &[Zone<'_>]) -> bool
-    ensures { result ≡ list_any is_stray (placed false (entries group.now)) }
+    ensures { result ≡ list_any is_stray (zones_placed false (entries group.now)) }
 {
     let mut is_open = false;
     let mut left = group;
@@ -336,7 +336,7 @@ fn is_unknown(kind: Kind, is_open: bool, zone: &Zone<'_>) -> bool
 
 /// Whether some extra of a record of this type is a pointer and isn't empty.
 fn has_unknown(kind: Kind, group: &[Zone<'_>]) -> bool
-    ensures { result ≡ list_any (is_unknown_pointer kind) (placed false (entries group.now)) }
+    ensures { result ≡ list_any (is_unknown_pointer kind) (zones_placed false (entries group.now)) }
 {
     let mut is_open = false;
     let mut left = group;

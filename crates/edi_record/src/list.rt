@@ -9,7 +9,7 @@ ghost use Rattle.edi_record.specs.RecordRefusal.{IsSheetRefusal};
 ghost use Rattle.edi_record.specs.RecordRules.{BreaksRecordRule};
 ghost use Rattle.edi_record.specs.Records.{StatesSheet};
 ghost use Rattle.edi_record.specs.Observers.{SawAll};
-ghost use Rattle.edi_record.specs.inner.Lists.{IsMadeOf};
+ghost use Rattle.edi_record.specs.inner.Lists.{IsMadeOfGroups};
 
 use crate::fault::{GroupFault, RecordFault, SheetFault};
 use crate::record_parts::RecordParts;
@@ -30,7 +30,7 @@ struct RecordsUntilFault {
 }
 
 impl GroupOut for RecordsUntilFault {
-    ghost Holds = { λ records groups. IsMadeOf groups records.list records.fault };
+    ghost Holds = { λ records groups. IsMadeOfGroups groups records.list records.fault };
 
     fn take(&mut self, alloc: Global, group: &[Zone<'_>]) -> Result<(), AllocError> {
         let [head, behind @ ..] = group else {
@@ -60,7 +60,7 @@ struct RecordsAndOther<O> {
 }
 
 impl<O: GroupOut> GroupOut for RecordsAndOther<O> {
-    ghost Holds = { λ both groups. IsMadeOf groups both.records.list both.records.fault × O.Holds both.other groups };
+    ghost Holds = { λ both groups. IsMadeOfGroups groups both.records.list both.records.fault × O.Holds both.other groups };
 
     fn take(&mut self, alloc: Global, group: &[Zone<'_>]) -> Result<(), AllocError> {
         self.records.take(alloc, group)?;

@@ -3,7 +3,7 @@
 ghost use Rattle.std.specs.Prelude.{◌≡◌, ◌+◌, ◌<◌, ◌≤◌, ◌==◌, length, drop, map, position, option_map};
 ghost use Rattle.std.specs.Option.{ForSome};
 ghost use Rattle.std.specs.Simd.Lanes.{mask_l};
-ghost use Rattle.edi_record.specs.inner.Texts.{AreCut, AreMarks, semicolon_marks};
+ghost use Rattle.edi_record.specs.inner.Texts.{AreCut, AreSemicolons, semicolon_marks};
 
 use std::simd::prelude::*;
 
@@ -17,7 +17,7 @@ const LANES: usize = 16;
 pub(crate) struct Marked<'a> {
     pub(crate) text: &'a [u8],
     marks: Option<u64>,
-    pub ghost right: { ForSome marks (AreMarks text.now) },
+    pub ghost right: { ForSome marks (AreSemicolons text.now) },
 }
 
 /// The lanes that are semicolons, a bit each.
@@ -60,7 +60,7 @@ pub(crate) fn cut(text: &[u8]) -> Option<(&[u8], Marked<'_>)>
 
 /// The semicolons of a text, if vectors cover it.
 fn marks_if_covered(text: &[u8]) -> Option<u64>
-    ensures { ForSome result (AreMarks text.now) }
+    ensures { ForSome result (AreSemicolons text.now) }
 {
     if text.len() < LANES || text.len() >= 4 * LANES {
         return None;
@@ -109,7 +109,7 @@ impl<'a> Marked<'a> {
     /// The semicolons of what follows a place.
     fn marks_behind(&self, at: usize) -> Option<u64>
         requires { at < length self.now.text.now }
-        ensures { ForSome result (AreMarks (drop (at + 1) self.now.text.now)) }
+        ensures { ForSome result (AreSemicolons (drop (at + 1) self.now.text.now)) }
     {
         match self.marks {
             Some(marks) => Some(marks >> (at + 1)),

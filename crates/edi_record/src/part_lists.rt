@@ -4,7 +4,7 @@ ghost use Rattle.std.specs.Prelude.{◌≡◌, ◌+◌, ◌<◌, ◌≤◌, ◌+
 ghost use Rattle.std.specs.Vec.{vec_len, vec_capacity};
 ghost use Rattle.edi_record.specs.AnyRecords.{record_lent};
 ghost use Rattle.edi_record.specs.inner.FlatRecords.{parts_between, ArePartsTo};
-ghost use Rattle.edi_record.specs.inner.PartLists.{held, no_parts, HaveRoom, AreStopsAfter};
+ghost use Rattle.edi_record.specs.inner.PartLists.{held, empty_parts, HaveRoom, AreStopsAfter};
 
 use crate::any_record::AnyRecordRef;
 use crate::flat_lists::{append, exact_room, handed_over, make_room, part};
@@ -52,7 +52,7 @@ impl<A: Drop, E: Drop> Drop for PartLists<A, E> {
 impl<A, E> PartLists<A, E> {
     /// PartLists without room.
     pub(crate) fn new(alloc: Global) -> PartLists<A, E>
-        ensures { held result ≡ no_parts }
+        ensures { held result ≡ empty_parts }
     {
         PartLists {
             points: Vec::new(alloc),
@@ -130,7 +130,7 @@ impl<A: Drop, E: Drop> PartLists<A, E> {
 
     /// Empty lists with room for the elements of these, but without where these are very many.
     pub(crate) fn exact_room(&self, alloc: Global) -> Result<PartLists<A, E>, AllocError>
-        ensures { IfOk result (λ exact. held exact ≡ no_parts) }
+        ensures { IfOk result (λ exact. held exact ≡ empty_parts) }
     {
         Ok(PartLists {
             points: exact_room(alloc, &self.points)?,
@@ -142,9 +142,9 @@ impl<A: Drop, E: Drop> PartLists<A, E> {
 
     /// Hands the elements over with no room for more, each list as `handed_over` does.
     pub(crate) fn handed_over(&mut self, exact: PartLists<A, E>) -> PartLists<A, E>
-        requires { held exact ≡ no_parts }
+        requires { held exact ≡ empty_parts }
         ensures same { held result ≡ held self.old }
-        ensures none { held self.new ≡ no_parts }
+        ensures none { held self.new ≡ empty_parts }
     {
         let PartLists {
             points,

@@ -3,7 +3,7 @@
 ghost use Rattle.std.specs.Prelude.{◌≡◌, true, false, if◌then◌else◌, List, [], map, length, codes, Some, option_map, IfOk, IfErr, OnOk};
 ghost use Rattle.edi_line.specs.ZoneData.{ZoneData};
 ghost use Rattle.edi_line.specs.inner.Number.{number};
-ghost use Rattle.edi_record.specs.inner.Texts.{parts, point, flat_place, high_place, last_part};
+ghost use Rattle.edi_record.specs.inner.Texts.{parts, point_in, flat_place, high_place, last_part};
 ghost use Rattle.edi_record.specs.Shapes.{may_have_points};
 ghost use Rattle.edi_record.specs.Records.{values, has_points};
 ghost use Rattle.edi_record.specs.inner.RecordRules.{kind_in, has_bad_point};
@@ -59,7 +59,7 @@ impl Point {
     /// The place that a text spells: two or three numbers parted by semicolons, with or without one
     /// at the end.
     pub(crate) fn read(text: &[u8]) -> Option<Point>
-        ensures { result ≡ point text.now }
+        ensures { result ≡ point_in text.now }
     {
         let (x, rest) = cut(text)?;
         let Some((y, third)) = rest.cut() else {
@@ -111,7 +111,7 @@ impl Points {
     pub(crate) fn finish(self, kind: Kind, list: &mut Vec<Point>) -> Result<(), GroupFault>
         ensures states { OnOk result ((group : List ZoneData)
             → (has_points kind ≡ true → StoresPoints (kept_points self list.old.items) [] group)
-            → (if has_points kind then map point (values (codes "COR") group) else []) ≡ map Some list.new.items) }
+            → (if has_points kind then map point_in (values (codes "COR") group) else []) ≡ map Some list.new.items) }
         ensures shape { OnOk result (may_have_points kind (length list.new.items) ≡ true) }
         ensures sound { OnOk result ((group : List ZoneData) → kind_in group ≡ Some kind
             → (has_points kind ≡ true → StoresPoints (kept_points self list.old.items) [] group)

@@ -16,7 +16,7 @@ ghost use Rattle.edi_record.specs.Rows.{line, one_node, the_node, node_group};
 ghost use Rattle.edi_record.specs.inner.Shapes.{AreInShape};
 ghost use Rattle.edi_record.specs.Sound.{PrintedSheetsAreSound};
 ghost use Rattle.edi_record.specs.inner.RecordRules.{FailsTest};
-ghost use Rattle.edi_record.specs.inner.Records.{ReadsAs};
+ghost use Rattle.edi_record.specs.inner.Records.{ReadsAsRecord};
 ghost use Rattle.edi_record.specs.declared.record.Record.{Record};
 ghost use Rattle.edi_record.specs.declared.record.Value.{Value};
 
@@ -56,7 +56,7 @@ fn zone_at<'a, 'b>(zones: &'b [Zone<'a>], at: usize) -> Option<(&'b Zone<'a>, &'
 /// that it breaks.
 fn list_of(alloc: Global, zones: &[Zone<'_>]) -> Result<SheetRecords, RecordFault>
     requires few { length (groups_of (entries zones.now)) ≤ most_records }
-    ensures states { IfOk result (λ v. AllZip ReadsAs (groups_of (entries zones.now)) v) }
+    ensures states { IfOk result (λ v. AllZip ReadsAsRecord (groups_of (entries zones.now)) v) }
     ensures few { IfOk result (λ v. length v ≤ most_records) }
     ensures shape { IfOk result (λ v. AreInShape v) }
     ensures sound { OnOk result (IsUnbroken (FailsTest (entries zones.now))) }

@@ -2,7 +2,7 @@
 
 ghost use Rattle.std.specs.Prelude.{◌≡◌, ◌||◌, IfOk};
 ghost use Rattle.edi_record.specs.Records.{has_points as kind_has_points, is_link as kind_is_link};
-ghost use Rattle.edi_record.specs.inner.RecordRules.{is_arc};
+ghost use Rattle.edi_record.specs.inner.RecordRules.{is_arc_kind};
 ghost use Rattle.edi_record.specs.Shapes.{kind_code, may_have_points as may_have_so_many};
 
 use crate::name::Name;
@@ -60,7 +60,7 @@ impl Kind {
 
     /// Whether records of this type may count their points or ends.
     pub(crate) fn has_count(self) -> bool
-        ensures { result ≡ (is_arc self || kind_is_link self) }
+        ensures { result ≡ (is_arc_kind self || kind_is_link self) }
     {
         match self {
             Kind::Par | Kind::Lnk => true,

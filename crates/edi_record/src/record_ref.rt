@@ -2,7 +2,7 @@
 
 ghost use Rattle.std.specs.Prelude.{◌≡◌};
 ghost use Rattle.edi_record.specs.AnyRecords.{record_lent};
-ghost use Rattle.edi_record.specs.inner.RecordParts.{record_of};
+ghost use Rattle.edi_record.specs.inner.RecordParts.{record_with_parts};
 
 use crate::any_record::AnyRecordRef;
 use crate::name::Name;
@@ -42,7 +42,7 @@ impl<'a> Model for RecordRef<'a> {
 impl<'a> RecordRef<'a> {
     /// The record with this head and these parts.
     pub(crate) fn of(found: AnyRecordRef<'a, RecordHead, Attribute, End>) -> RecordRef<'a>
-        ensures { result ≡ record_of (record_lent found.entry) }
+        ensures { result ≡ record_with_parts (record_lent found.entry) }
     {
         RecordRef {
             kind: found.head.kind,

@@ -30,9 +30,9 @@ impl Model for SheetRecords {
 
     ghost Value = { List Record };
 
-    ghost use Rattle.edi_record.specs.inner.RecordParts.{records_of};
+    ghost use Rattle.edi_record.specs.inner.RecordParts.{records_with_parts};
 
-    ghost view = { λ records. records_of records.blocks };
+    ghost view = { λ records. records_with_parts records.blocks };
 }
 
 impl SheetRecords {

@@ -1,7 +1,7 @@
 //! The records of a sheet, as they are gone through.
 
 ghost use Rattle.std.specs.Prelude.{◌≡◌, ◌++◌, [], Some, drop, slice_get, MatchOption};
-ghost use Rattle.edi_record.specs.inner.RecordParts.{records_of};
+ghost use Rattle.edi_record.specs.inner.RecordParts.{records_with_parts};
 ghost use Rattle.edi_record.specs.inner.SheetRest.{all_ahead, AreAhead};
 
 use crate::block::Block;
@@ -33,7 +33,7 @@ impl Drop for BlocksAhead {
 
 impl BlocksAhead {
     /// The next block; or one of no records, if there is none.
-    #[tactic(auto, unfolding(crate::specs::inner::BlockLists::joined))]
+    #[tactic(auto, unfolding(crate::specs::inner::BlockLists::blocks_joined))]
     fn next(&mut self) -> Block<RecordHead, Attribute, End>
         requires { AreAhead self.old }
         ensures records { result ++ all_ahead self.new ≡ all_ahead self.old }
@@ -70,10 +70,10 @@ impl Model for SheetRest {
 
     ghost Value = { List Record };
 
-    ghost use Rattle.edi_record.specs.inner.RecordParts.{records_of};
+    ghost use Rattle.edi_record.specs.inner.RecordParts.{records_with_parts};
     ghost use Rattle.edi_record.specs.inner.SheetRest.{all_ahead, IsUnderWay};
 
-    ghost view = { λ rest. records_of (drop rest.place rest.block ++ all_ahead rest.ahead) };
+    ghost view = { λ rest. records_with_parts (drop rest.place rest.block ++ all_ahead rest.ahead) };
 
     ghost invariant = { λ rest. IsUnderWay rest.ahead rest.block rest.place };
 }
@@ -81,7 +81,7 @@ impl Model for SheetRest {
 impl SheetRest {
     /// All the records of these blocks.
     pub(crate) fn new(blocks: Blocks<RecordHead, Attribute, End>) -> SheetRest
-        ensures { result ≡ records_of blocks }
+        ensures { result ≡ records_with_parts blocks }
     {
         let mut ahead = BlocksAhead {
             alloc: blocks.alloc,

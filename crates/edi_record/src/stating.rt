@@ -5,7 +5,7 @@ ghost use Rattle.edi_line.specs.ZoneData.{entry, entries};
 ghost use Rattle.edi_line.specs.Zones.{begins_group, ends_group, before_end, groups_of};
 ghost use Rattle.edi_line.specs.inner.Refusal.{first_broken};
 ghost use Rattle.edi_record.specs.Shapes.{is_in_shape};
-ghost use Rattle.edi_record.specs.inner.Records.{ReadsAs};
+ghost use Rattle.edi_record.specs.inner.Records.{ReadsAsRecord};
 ghost use Rattle.edi_record.specs.inner.RecordRules.{kind_named as kind_by, record_tests};
 ghost use Rattle.edi_record.specs.inner.RecordRefusal.{IsGroupRefusal};
 ghost use Rattle.edi_record.specs.inner.RecordParts.{AreEmpty, whole};
@@ -48,7 +48,7 @@ pub(crate) fn record_of(
 ) -> Result<(RecordHead, usize), GroupFault>
     requires begins { begins_group (entry head.now) ≡ true }
     requires empty { AreEmpty parts.old }
-    ensures states { IfOk result (λ p. ReadsAs (entry head.now ∷ before_end (entries behind.now))
+    ensures states { IfOk result (λ p. ReadsAsRecord (entry head.now ∷ before_end (entries behind.now))
         (whole p.0 parts.new)) }
     ensures shape { IfOk result (λ p. is_in_shape (whole p.0 parts.new) ≡ true) }
     ensures within { IfOk result (λ p. p.1 ≤ length behind.now) }

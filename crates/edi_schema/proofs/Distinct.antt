@@ -5,24 +5,24 @@ use Rattle.edi_record.specs.declared.name.Name.{Name}
 use Rattle.edi_schema.specs.Classes.{is_name}
 use Rattle.std.proofs.lemmas.Option.{slice_get-map, slice_get-get_or}
 use Rattle.std.proofs.lemmas.List.{take_all, take-map}
-use Rattle.edi_schema.specs.inner.Drafts.{named, said}
+use Rattle.edi_schema.specs.inner.Drafts.{title_name, definition_said}
 use Rattle.edi_schema.specs.inner.Steps.{IsFirstRepeat}
 use Rattle.edi_schema.specs.declared.definition.Definition.{Definition}
 use Rattle.edi_schema.specs.declared.title.Title.{Title}
 
-module _ (eq : Title → Title → Bool) (is : (a b : Title) → eq a b ≡ is_name (named a) (named b)) where
-  all_apart : (t : Title) (ts : List Title) → AllByRecursion (λ u. eq t u ≡ false) ts → AllByRecursion (λ n. is_name (named t) n ≡ false) (map named ts)
+module _ (eq : Title → Title → Bool) (is : (a b : Title) → eq a b ≡ is_name (title_name a) (title_name b)) where
+  all_apart : (t : Title) (ts : List Title) → AllByRecursion (λ u. eq t u ≡ false) ts → AllByRecursion (λ n. is_name (title_name t) n ≡ false) (map title_name ts)
   all_apart t [] h = tt
   all_apart t (u ∷ us) h = (sym (is t u) ∙ h.0, all_apart t us h.1)
 
-  pub names_distinct : (ts : List Title) → IsDistinct eq ts → IsDistinct is_name (map named ts)
+  pub names_distinct : (ts : List Title) → IsDistinct eq ts → IsDistinct is_name (map title_name ts)
   unfolding IsDistinct
   names_distinct [] h = tt
   names_distinct (t ∷ ts) h = (all_apart t ts h.0, names_distinct ts h.1)
 
-  pub any_named : (t : Title) (ts : List Title) → list_any (eq t) ts ≡ list_any (is_name (named t)) (map named ts)
+  pub any_named : (t : Title) (ts : List Title) → list_any (eq t) ts ≡ list_any (is_name (title_name t)) (map title_name ts)
   any_named t [] = refl
-  any_named t (u ∷ us) = ap (λ b. b || list_any (eq t) us) (is t u) ∙ ap (λ b. is_name (named t) (named u) || b) (any_named t us)
+  any_named t (u ∷ us) = ap (λ b. b || list_any (eq t) us) (is t u) ∙ ap (λ b. is_name (title_name t) (title_name u) || b) (any_named t us)
 
 pub none_distinct : IsDistinct is_name []
 unfolding IsDistinct
@@ -31,14 +31,14 @@ none_distinct = tt
 -- ---- of the records of a file
 
 abbrev name_of : Definition → Name
-name_of d = (said d).name
+name_of d = (definition_said d).name
 
 not_false : (b : Bool) → not b ≡ false → b ≡ true
 not_false true e = refl
 not_false false e = sym e
 
-module _ (eq : Title → Title → Bool) (is : (a b : Title) → eq a b ≡ is_name (named a) (named b)) where
-  pub repeat_found : (records : List Definition) (i : ℕ) (d : Definition) (ts : List Title) → i < length records → map named ts ≡ map name_of (take i records)
+module _ (eq : Title → Title → Bool) (is : (a b : Title) → eq a b ≡ is_name (title_name a) (title_name b)) where
+  pub repeat_found : (records : List Definition) (i : ℕ) (d : Definition) (ts : List Title) → i < length records → map title_name ts ≡ map name_of (take i records)
       → IsDistinct is_name (map name_of (take i records)) → not (list_any (eq (get_or records i d).title) ts) ≡ false → IsFirstRepeat (map name_of records) (i + 1)
   repeat_found records i d ts below names distinct there =
       let front : map name_of (take i records) ≡ take i (map name_of records) = sym (take-map name_of i records) in

@@ -9,7 +9,7 @@ use Rattle.std.proofs.lemmas.List.Sorted.{IsPermutation-map}
 use Rattle.std.proofs.lemmas.Map.Keys.{IsDistinct-IsPermutation, apart_from_distinct, sorted_from_all_adjacent}
 use Rattle.edi_record.specs.declared.name.Name.{Name}
 use Rattle.edi_schema.specs.Classes.{is_name, name_cmp}
-use Rattle.edi_schema.specs.inner.Drafts.{named, drafted}
+use Rattle.edi_schema.specs.inner.Drafts.{title_name, drafted}
 use Rattle.edi_schema.specs.Sorted.{AlwaysRises}
 use Rattle.edi_schema.specs.declared.class.Class.{Class}
 use Rattle.edi_schema.specs.declared.draft.ClassDraft.{ClassDraft}
@@ -33,29 +33,29 @@ flips a b = go (is_name a b) (is_name b a) refl refl
 abbrev names : List ClassDraft → List Name
 names ds = keys_of (map drafted ds)
 
-title_at : (ds : List ClassDraft) (k : ℕ) (d : ClassDraft) (e : Name) → k < length ds → get_or (names ds) k e ≡ named (get_or ds k d).title
+title_at : (ds : List ClassDraft) (k : ℕ) (d : ClassDraft) (e : Name) → k < length ds → get_or (names ds) k e ≡ title_name (get_or ds k d).title
 title_at ds k d e below =
     let more : k < length (map drafted ds) = omega (arith, length-map ds drafted) in
     get_or-map (λ p. p.0) (map drafted ds) k (drafted d) e more ∙ ap (λ p. p.0) (get_or-map drafted ds k d (drafted d) below)
 
 -- each title is no less than the one before it
 abbrev pub AscendTitles : List ClassDraft → Type 0
-AscendTitles ds = (k : ℕ) (d : ClassDraft) → 0 ≤ k → k + 1 < length ds → is_lt (name_cmp (named (get_or ds (k + 1) d).title) (named (get_or ds k d).title)) ≡ false
+AscendTitles ds = (k : ℕ) (d : ClassDraft) → 0 ≤ k → k + 1 < length ds → is_lt (name_cmp (title_name (get_or ds (k + 1) d).title) (title_name (get_or ds k d).title)) ≡ false
 
 pub sorted_rises : (ds : List ClassDraft) → AscendTitles ds → IsDistinct is_name (names ds) → AlwaysRises name_cmp (names ds)
 sorted_rises [] sorted distinct = tt
-sorted_rises (x ∷ xs) sorted distinct = rises_from (names (x ∷ xs)) (sorted_from_all_adjacent name_total (names (x ∷ xs)) (named x.title) (λ k below. adjacent k below))
+sorted_rises (x ∷ xs) sorted distinct = rises_from (names (x ∷ xs)) (sorted_from_all_adjacent name_total (names (x ∷ xs)) (title_name x.title) (λ k below. adjacent k below))
   where
     count : length (names (x ∷ xs)) ≡ length (x ∷ xs)
     count = length-map (map drafted (x ∷ xs)) (λ p. p.0) ∙ length-map (x ∷ xs) drafted
 
-    adjacent : (k : ℕ) → k + 1 < length (names (x ∷ xs)) → name_cmp (get_or (names (x ∷ xs)) k (named x.title)) (get_or (names (x ∷ xs)) (k + 1) (named x.title)) ≡ Less
+    adjacent : (k : ℕ) → k + 1 < length (names (x ∷ xs)) → name_cmp (get_or (names (x ∷ xs)) k (title_name x.title)) (get_or (names (x ∷ xs)) (k + 1) (title_name x.title)) ≡ Less
     adjacent k below =
         let here : k + 1 < length (x ∷ xs) = omega (arith, below, count) in
-        let first = title_at (x ∷ xs) k x (named x.title) (omega (arith, here)) in
-        let second = title_at (x ∷ xs) (k + 1) x (named x.title) here in
+        let first = title_at (x ∷ xs) k x (title_name x.title) (omega (arith, here)) in
+        let second = title_at (x ∷ xs) (k + 1) x (title_name x.title) here in
         let up = sorted k x (omega arith) here in
-        let apart = apart_from_distinct is_name (names (x ∷ xs)) k (k + 1) (named x.title) distinct (omega arith) below in
+        let apart = apart_from_distinct is_name (names (x ∷ xs)) k (k + 1) (title_name x.title) distinct (omega arith) below in
         joined _ _ _ _ first second up apart
       where
         joined : (m n a b : Name) → m ≡ a → n ≡ b → is_lt (name_cmp b a) ≡ false → is_name m n ≡ false → name_cmp m n ≡ Less

@@ -14,7 +14,7 @@ use Rattle.edi_schema.specs.Roles.{KindCodes}
 use Rattle.edi_record.specs.declared.name.Name.{Name}
 use Rattle.edi_schema.specs.declared.class.Class.{Class}
 use Rattle.edi_schema.specs.Classes.{Classes, IsLetter, IsReadName}
-use Rattle.edi_schema.specs.inner.Drafts.{Said, said, said_in, drafted}
+use Rattle.edi_schema.specs.inner.Drafts.{Said, definition_said, said_in, drafted}
 use Rattle.edi_schema.specs.SchemaOf.{IsGroupsOf}
 use Rattle.edi_schema.specs.SchemaRefusal.{IsGoodSchema, IsSchemaRefusal}
 use Rattle.edi_schema.specs.inner.Steps.{IfEntry, IfKinds, AreStated, AreMatched, AreUnmatched, StopsAt}
@@ -37,8 +37,8 @@ pub record IsRead (b : List ℕ) (zones : List Zone) : Type 0 where
 pub is_read : (b : List ℕ) (borrowed zones : List ZoneOf) → borrowed ≡ zones → IsZonesOf b (entries zones) → HasShape (entries zones) → IsUnbroken (BreaksLineRule b) → IsRead b (entries borrowed)
 is_read b borrowed zones same is shape sound = subst (λ zs. IsRead b (entries zs)) (sym same) (record { is = is; shape = shape; sound = sound })
 
-pub all_said : (ds items : List Definition) (ss : List Said) → ds ≡ items → map said items ≡ ss → map said ds ≡ ss
-all_said ds items ss same are = ap (map said) same ∙ are
+pub all_said : (ds items : List Definition) (ss : List Said) → ds ≡ items → map definition_said items ≡ ss → map definition_said ds ≡ ss
+all_said ds items ss same are = ap (map definition_said) same ∙ are
 
 pub few_drafts : (ds items : List ClassDraft) (n : ℕ) → ds ≡ items → length (map drafted items) ≤ n → length ds ≤ n
 few_drafts ds items n same few = omega (arith, ap length same, length-map items drafted, few)

@@ -12,7 +12,7 @@ use Rattle.edi_record.specs.Texts.{is_semicolon}
 use Rattle.edi_record.proofs.StatesSaid.{points_said}
 use Rattle.edi_schema.specs.Roles.{KindCodes, role_by, is_plain, same_role, exchanged}
 use Rattle.edi_schema.specs.Classes.{Classes, is_name, has_role, is_pointable}
-use Rattle.edi_schema.specs.inner.Drafts.{Said, said_in, name_in, word_in, type_by, class_in}
+use Rattle.edi_schema.specs.inner.Drafts.{Said, said_in, draft_name, word_in, type_by, class_in}
 use Rattle.edi_schema.specs.SchemaOf.{IsNamed, StatesWord, HasType, StatesClass, IsSchemaOf}
 use Rattle.edi_schema.specs.SchemaOf.HasType.{none, some}
 use Rattle.edi_schema.specs.SchemaRules.{HasRole, BreaksKinds}
@@ -29,17 +29,17 @@ use Rattle.edi_schema.proofs.Pointable.{any_at, some_pass, by_pointable, makes_p
 -- ---- words
 
 abbrev pub word_of : List ZoneData → Name × Option (List ℕ)
-word_of g = (name_in g, first (values (codes "TYP") g))
+word_of g = (draft_name g, first (values (codes "TYP") g))
 
-zip_words : (gs : List (List ZoneData)) → ((k : ℕ) (g : List ZoneData) → slice_get gs k ≡ Some g → IsNamed g (name_in g)) → AllZip StatesWord gs (map word_of gs)
+zip_words : (gs : List (List ZoneData)) → ((k : ℕ) (g : List ZoneData) → slice_get gs k ≡ Some g → IsNamed g (draft_name g)) → AllZip StatesWord gs (map word_of gs)
 zip_words [] named = tt
 zip_words (g ∷ gs) named = ((named 0 g refl, refl), zip_words gs (λ k h e. named (suc k) h e))
 
 found_up : (name : Name) (gs : List (List ZoneData)) (w : Said) → find (λ word. is_name name word.name) (map said_in gs) ≡ Some w → lookup (is_name name) (map word_of gs) ≡ Some w.word_type
 found_up name [] w e = absurd (none-some w e)
-found_up name (g ∷ gs) w e = go (is_name name (name_in g)) refl e (found_up name gs w)
+found_up name (g ∷ gs) w e = go (is_name name (draft_name g)) refl e (found_up name gs w)
   where
-    go : (b : Bool) → is_name name (name_in g) ≡ b → cond b (Some (said_in g)) (find (λ word. is_name name word.name) (map said_in gs)) ≡ Some w
+    go : (b : Bool) → is_name name (draft_name g) ≡ b → cond b (Some (said_in g)) (find (λ word. is_name name word.name) (map said_in gs)) ≡ Some w
         → (find (λ word. is_name name word.name) (map said_in gs) ≡ Some w → lookup (is_name name) (map word_of gs) ≡ Some w.word_type)
         → lookup (is_name name) (map word_of (g ∷ gs)) ≡ Some w.word_type
     go true f e more = rw f (ap (λ s. Some s.word_type) (same_Some (said_in g) w e))
@@ -64,7 +64,7 @@ module _ (ws : List (List ZoneData)) (led : AllByRecursion IsLed ws) (form : Are
       go None f e = subst (HasType (map word_of ws) g) (same_Some None t e) (none (no_first (values (codes "DIP") g) f))
       go (Some text) f e = by_word text f (word_in (map said_in ws) text) refl e
 
-  states : (kinds : KindCodes) (g : List ZoneData) (p : Name × Class) → IsNamed g (name_in g) → class_in kinds (map said_in ws) (said_in g) ≡ Some p → StatesClass kinds (map word_of ws) g p
+  states : (kinds : KindCodes) (g : List ZoneData) (p : Name × Class) → IsNamed g (draft_name g) → class_in kinds (map said_in ws) (said_in g) ≡ Some p → StatesClass kinds (map word_of ws) g p
   states kinds g p named e = go (type_by (map said_in ws) (first (values (codes "DIP") g))) refl e
     where
       go : (o : Option (Option (List ℕ))) → type_by (map said_in ws) (first (values (codes "DIP") g)) ≡ o → option_map (named_class kinds g) o ≡ Some p → StatesClass kinds (map word_of ws) g p
@@ -78,7 +78,7 @@ module _ (ws : List (List ZoneData)) (led : AllByRecursion IsLed ws) (form : Are
         number = refl;
       })
 
-  zip_classes : (kinds : KindCodes) (gs : List (List ZoneData)) (stated : Classes) → ((k : ℕ) (g : List ZoneData) → slice_get gs k ≡ Some g → IsNamed g (name_in g))
+  zip_classes : (kinds : KindCodes) (gs : List (List ZoneData)) (stated : Classes) → ((k : ℕ) (g : List ZoneData) → slice_get gs k ≡ Some g → IsNamed g (draft_name g))
       → map (class_in kinds (map said_in ws)) (map said_in gs) ≡ map Some stated → AllZip (StatesClass kinds (map word_of ws)) gs stated
   zip_classes kinds [] [] named e = tt
   zip_classes kinds [] (p ∷ ps) named e = absurd (none-some _ (ap Rattle.edi_line.specs.ZoneData.first e))

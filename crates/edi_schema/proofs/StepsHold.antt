@@ -14,11 +14,11 @@ use Rattle.edi_record.specs.inner.Texts.{class_of}
 use Rattle.edi_record.proofs.StatesSaid.{points_said, points_read}
 use Rattle.edi_schema.specs.Roles.{KindCodes}
 use Rattle.edi_schema.specs.Classes.{Classes, is_name}
-use Rattle.edi_schema.specs.inner.Drafts.{Said, said_in, name_in, word_in, type_by, class_by, class_in}
+use Rattle.edi_schema.specs.inner.Drafts.{Said, said_in, draft_name, word_in, type_by, class_by, class_in}
 use Rattle.edi_schema.specs.SchemaOf.{IsNamed}
 use Rattle.edi_schema.specs.SchemaRules.{BreaksEntry, HasNoWord, IsFirstEntry, EntriesHold, step}
 use Rattle.edi_schema.specs.SchemaRules.BreaksEntry.{lacks_identifier, repeats_name, no_word}
-use Rattle.edi_schema.specs.inner.Steps.{AreIdentified, IsFirstUnidentified, IsFirstRepeat, IsFirstLacking, names_of, AreNamed, StopsAt, AreStated}
+use Rattle.edi_schema.specs.inner.Steps.{AreIdentified, IsFirstUnidentified, IsFirstRepeat, IsFirstLacking, names_said, AreNamed, StopsAt, AreStated}
 use Rattle.edi_schema.specs.inner.Steps.StopsAt.{class_unidentified, word_unidentified, class_repeats, word_repeats, lacks_word}
 use Rattle.edi_schema.specs.declared.fault.Source.{Source}
 use Rattle.edi_schema.specs.declared.fault.Source.TheVariants.{Scd, Dic}
@@ -99,7 +99,7 @@ first_lack gs at h = (found, least)
 
 -- ---- 602
 
-name_at_place : (gs : List (List ZoneData)) (k : ℕ) (g : List ZoneData) → slice_get gs k ≡ Some g → slice_get (names_of (map said_in gs)) k ≡ Some (name_in g)
+name_at_place : (gs : List (List ZoneData)) (k : ℕ) (g : List ZoneData) → slice_get gs k ≡ Some g → slice_get (names_said (map said_in gs)) k ≡ Some (draft_name g)
 name_at_place gs k g e =
     slice_get-map (λ s. s.name) (map said_in gs) k ∙ (ap (option_map (λ s. s.name)) (slice_get-map said_in gs k) ∙ ap (λ o. option_map (λ s. s.name) (option_map said_in o)) e)
 
@@ -108,16 +108,16 @@ distinct_apart ns distinct i k m n lower h g =
     let apart = apart_from_distinct is_name ns i k m distinct lower (slice_get_within ns k n g) in
     sym (ap (λ x. is_name x n) (get_or_from_slice_get ns i m m h) ∙ refl) ∙ (ap (is_name (Rattle.std.proofs.Common.get_or ns i m)) (sym (get_or_from_slice_get ns k n m g)) ∙ apart)
 
-no_repeat : (gs : List (List ZoneData)) → IsDistinct is_name (names_of (map said_in gs)) → (at : ℕ) → Repeats gs at → ⊥
+no_repeat : (gs : List (List ZoneData)) → IsDistinct is_name (names_said (map said_in gs)) → (at : ℕ) → Repeats gs at → ⊥
 no_repeat gs distinct at h =
     let m = h.0 in
     let name = h.3 in
     let first_at : At gs m h.1 = h.5 in
     let one : 1 ≤ m = first_at.0 in
     let lower : m < at = h.4 in
-    let apart = distinct_apart (names_of (map said_in gs)) distinct (m - 1) (at - 1) (name_in h.1) (name_in h.2) (omega (arith, one, lower)) (name_at_place gs (m - 1) h.1 h.5.1) (name_at_place gs (at - 1) h.2 h.6.1) in
-    let same : name_in h.1 ≡ name_in h.2 = sym (named_so h.1 name h.7) ∙ named_so h.2 name h.8 in
-    true≢false (sym (name_itself (name_in h.2)) ∙ (sym (ap (λ x. is_name x (name_in h.2)) same) ∙ apart))
+    let apart = distinct_apart (names_said (map said_in gs)) distinct (m - 1) (at - 1) (draft_name h.1) (draft_name h.2) (omega (arith, one, lower)) (name_at_place gs (m - 1) h.1 h.5.1) (name_at_place gs (at - 1) h.2 h.6.1) in
+    let same : draft_name h.1 ≡ draft_name h.2 = sym (named_so h.1 name h.7) ∙ named_so h.2 name h.8 in
+    true≢false (sym (name_itself (draft_name h.2)) ∙ (sym (ap (λ x. is_name x (draft_name h.2)) same) ∙ apart))
 
 any_at : {X : Type 0} (test : X → Bool) (xs : List X) → list_any test xs ≡ true → (j : ℕ) × (x : X) × (slice_get xs j ≡ Some x) × (test x ≡ true)
 any_at test [] h = absurd (true≢false (sym h))
@@ -146,29 +146,29 @@ mapped_at f [] k y e = absurd (none-some y e)
 mapped_at f (x ∷ xs) zero y e = (x, refl, same_Some (f x) y e)
 mapped_at f (x ∷ xs) (suc k) y e = mapped_at f xs k y e
 
-group_named : (gs : List (List ZoneData)) (k : ℕ) (n : Name) → slice_get (names_of (map said_in gs)) k ≡ Some n → (g : List ZoneData) × (slice_get gs k ≡ Some g) × (name_in g ≡ n)
+group_named : (gs : List (List ZoneData)) (k : ℕ) (n : Name) → slice_get (names_said (map said_in gs)) k ≡ Some n → (g : List ZoneData) × (slice_get gs k ≡ Some g) × (draft_name g ≡ n)
 group_named gs k n e =
     let s = mapped_at (λ s. s.name) (map said_in gs) k n e in
     let g = mapped_at said_in gs k s.0 s.1 in
     (g.0, g.1, ap (λ s. s.name) g.2 ∙ s.2)
 
 module _ (gs : List (List ZoneData)) (led : AllByRecursion IsLed gs) (form : AreIdentified (map said_in gs)) where
-  pub own_name : (k : ℕ) (g : List ZoneData) → slice_get gs k ≡ Some g → IsNamed g (name_in g)
+  pub own_name : (k : ℕ) (g : List ZoneData) → slice_get gs k ≡ Some g → IsNamed g (draft_name g)
   own_name k g e = is_named g (all_at IsLed gs led k g e) (all_in_form gs form k g e)
 
-  named_by : (k : ℕ) (g : List ZoneData) (n : Name) → slice_get gs k ≡ Some g → name_in g ≡ n → IsNamed g n
+  named_by : (k : ℕ) (g : List ZoneData) (n : Name) → slice_get gs k ≡ Some g → draft_name g ≡ n → IsNamed g n
   named_by k g n e same = subst (IsNamed g) same (own_name k g e)
 
-  first_repeat : (at : ℕ) → IsFirstRepeat (names_of (map said_in gs)) at → Repeats gs at × ((p : ℕ) → Repeats gs p → at ≤ p)
+  first_repeat : (at : ℕ) → IsFirstRepeat (names_said (map said_in gs)) at → Repeats gs at × ((p : ℕ) → Repeats gs p → at ≤ p)
   first_repeat at h = (found, least)
     where
       found : Repeats gs at
       found =
-          let earlier = any_at (is_name h.name) (take h.place (names_of (map said_in gs))) h.repeats in
-          let place = taken_at (names_of (map said_in gs)) h.place earlier.0 earlier.1 earlier.2 in
+          let earlier = any_at (is_name h.name) (take h.place (names_said (map said_in gs))) h.repeats in
+          let place = taken_at (names_said (map said_in gs)) h.place earlier.0 earlier.1 earlier.2 in
           let one = group_named gs earlier.0 earlier.1 place.1 in
           let two = group_named gs h.place h.name h.here in
-          let same : name_in one.0 ≡ h.name = one.2 ∙ sym (same_name h.name earlier.1 earlier.3) in
+          let same : draft_name one.0 ≡ h.name = one.2 ∙ sym (same_name h.name earlier.1 earlier.3) in
           let early : suc earlier.0 - 1 ≡ earlier.0 = omega arith in
           let late : at - 1 ≡ h.place = omega (arith, h.at_is) in (
             suc earlier.0,
@@ -190,12 +190,12 @@ module _ (gs : List (List ZoneData)) (led : AllByRecursion IsLed gs) (form : Are
               let m = r.0 in
               let one : 1 ≤ m = r.5.0 in
               let less : m < p = r.4 in
-              let ns = names_of (map said_in gs) in
-              let first = take_at_place ns h.place (m - 1) (name_in r.1) (omega (arith, one, less, lower)) (name_at_place gs (m - 1) r.1 r.5.1) in
-              let second = take_at_place ns h.place (p - 1) (name_in r.2) lower (name_at_place gs (p - 1) r.2 r.6.1) in
-              let apart = distinct_apart (take h.place ns) h.distinct (m - 1) (p - 1) (name_in r.1) (name_in r.2) (omega (arith, one, less)) first second in
-              let same : name_in r.1 ≡ name_in r.2 = sym (named_so r.1 r.3 r.7) ∙ named_so r.2 r.3 r.8 in
-              true≢false (sym (name_itself (name_in r.2)) ∙ (sym (ap (λ x. is_name x (name_in r.2)) same) ∙ apart))
+              let ns = names_said (map said_in gs) in
+              let first = take_at_place ns h.place (m - 1) (draft_name r.1) (omega (arith, one, less, lower)) (name_at_place gs (m - 1) r.1 r.5.1) in
+              let second = take_at_place ns h.place (p - 1) (draft_name r.2) lower (name_at_place gs (p - 1) r.2 r.6.1) in
+              let apart = distinct_apart (take h.place ns) h.distinct (m - 1) (p - 1) (draft_name r.1) (draft_name r.2) (omega (arith, one, less)) first second in
+              let same : draft_name r.1 ≡ draft_name r.2 = sym (named_so r.1 r.3 r.7) ∙ named_so r.2 r.3 r.8 in
+              true≢false (sym (name_itself (draft_name r.2)) ∙ (sym (ap (λ x. is_name x (draft_name r.2)) same) ∙ apart))
 
           go : (p - 1 ≡ h.place) ⊎ ((p - 1 < h.place) ⊎ (h.place < p - 1)) → at ≤ p
           go (inl e) = let one : 1 ≤ p = r.6.0 in omega (arith, e, h.at_is, one)
@@ -227,7 +227,7 @@ find_lacks {X} test (y ∷ ys) e k x h = go (test y) refl e k h (find_lacks test
 
 -- the class of a record whose DIP leads to a type, with its name
 abbrev pub named_class : KindCodes → List ZoneData → Option (List ℕ) → Name × Rattle.edi_schema.specs.declared.class.Class.Class
-named_class kinds g t = (name_in g, class_by kinds (said_in g) t)
+named_class kinds g t = (draft_name g, class_by kinds (said_in g) t)
 
 module _ (ws : List (List ZoneData)) (led : AllByRecursion IsLed ws) (form : AreIdentified (map said_in ws)) where
   -- what word_in finds is named so
@@ -240,7 +240,7 @@ module _ (ws : List (List ZoneData)) (led : AllByRecursion IsLed ws) (form : Are
       go (Some name) f e =
           let found = find_there (λ word. is_name name word.name) (map said_in ws) w e in
           let group = mapped_at said_in ws found.0 w found.1 in
-          let same : name ≡ name_in group.0 = same_name name w.name found.2 ∙ ap (λ s. s.name) (sym group.2) in
+          let same : name ≡ draft_name group.0 = same_name name w.name found.2 ∙ ap (λ s. s.name) (sym group.2) in
           (name, found.0, group.0, f, group.1, group.2, named_by ws led form found.0 group.0 name group.1 (sym same))
 
   -- a record with a class has a word
@@ -270,8 +270,8 @@ module _ (ws : List (List ZoneData)) (led : AllByRecursion IsLed ws) (form : Are
         λ name points m word at is.
             let lacks : find (λ word. is_name name word.name) (map said_in ws) ≡ None = sym (ap (option_and_then (λ name. find (λ word. is_name name word.name) (map said_in ws))) (points_read text name points)) ∙ h in
             let other = find_lacks (λ word. is_name name word.name) (map said_in ws) lacks (m - 1) (said_in word) (slice_get-map said_in ws (m - 1) ∙ ap (option_map said_in) at.1) in
-            let same : name ≡ name_in word = named_so word name is in
-            true≢false (sym (name_itself (name_in word)) ∙ (ap (λ x. is_name x (name_in word)) (sym same) ∙ other)),
+            let same : name ≡ draft_name word = named_so word name is in
+            true≢false (sym (name_itself (draft_name word)) ∙ (ap (λ x. is_name x (draft_name word)) (sym same) ∙ other)),
       )
 
       go : (o : Option (List ℕ)) → first (values (codes "DIP") g) ≡ o → option_map (named_class kinds g) (type_by (map said_in ws) o) ≡ None → NoWord ws g
@@ -348,7 +348,7 @@ module _ (cs ws : List (List ZoneData)) (cs_led : AllByRecursion IsLed cs) (ws_l
       least first Scd r p (no_word g s l) = inl (omega (arith, g))
       least first Dic r p (no_word g s l) = inl (omega (arith, g))
 
-  class_602 : (at : ℕ) → AreIdentified (map said_in cs) → AreIdentified (map said_in ws) → IsFirstRepeat (names_of (map said_in cs)) at → IsFirstEntry cs ws Scd 602 at
+  class_602 : (at : ℕ) → AreIdentified (map said_in cs) → AreIdentified (map said_in ws) → IsFirstRepeat (names_said (map said_in cs)) at → IsFirstEntry cs ws Scd 602 at
   class_602 at form words_form h = record { is = repeats_name refl (first_repeat cs cs_led form at h).0; least = least (first_repeat cs cs_led form at h).1 }
     where
       least : ((p : ℕ) → Repeats cs p → at ≤ p) → (other : Source) (r p : ℕ) → BreaksEntry cs ws other r p → (step cs ws Scd 602 < step cs ws other r) ⊎ ((step cs ws Scd 602 ≡ step cs ws other r) × (at ≤ p))
@@ -359,7 +359,7 @@ module _ (cs ws : List (List ZoneData)) (cs_led : AllByRecursion IsLed cs) (ws_l
       least first Scd r p (no_word g s l) = inl (omega (arith, g))
       least first Dic r p (no_word g s l) = inl (omega (arith, g))
 
-  word_602 : (at : ℕ) → AreIdentified (map said_in cs) → AreIdentified (map said_in ws) → IsDistinct is_name (names_of (map said_in cs)) → IsFirstRepeat (names_of (map said_in ws)) at → IsFirstEntry cs ws Dic 602 at
+  word_602 : (at : ℕ) → AreIdentified (map said_in cs) → AreIdentified (map said_in ws) → IsDistinct is_name (names_said (map said_in cs)) → IsFirstRepeat (names_said (map said_in ws)) at → IsFirstEntry cs ws Dic 602 at
   word_602 at form words_form distinct h = record { is = repeats_name refl (first_repeat ws ws_led words_form at h).0; least = least (first_repeat ws ws_led words_form at h).1 }
     where
       least : ((p : ℕ) → Repeats ws p → at ≤ p) → (other : Source) (r p : ℕ) → BreaksEntry cs ws other r p → (step cs ws Dic 602 < step cs ws other r) ⊎ ((step cs ws Dic 602 ≡ step cs ws other r) × (at ≤ p))

@@ -7,8 +7,8 @@ use Rattle.std.proofs.lemmas.List.Sorted.{length_permutation}
 use Rattle.edi_record.specs.declared.name.Name.{Name}
 use Rattle.edi_schema.specs.Roles.{KindCodes}
 use Rattle.edi_schema.specs.Classes.{Classes}
-use Rattle.edi_schema.specs.inner.Drafts.{Said, said, class_in, class_by, type_by}
-use Rattle.edi_schema.specs.inner.Steps.{IfEntry, AreIdentified, IsFirstUnidentified, names_of, AreStated}
+use Rattle.edi_schema.specs.inner.Drafts.{Said, definition_said, class_in, class_by, type_by}
+use Rattle.edi_schema.specs.inner.Steps.{IfEntry, AreIdentified, IsFirstUnidentified, names_said, AreStated}
 use Rattle.edi_schema.specs.declared.class.Class.{Class}
 use Rattle.edi_schema.specs.declared.definition.Definition.{Definition}
 use Rattle.edi_schema.specs.declared.fault.Source.{Source}
@@ -30,19 +30,19 @@ map_twice : {X Y Z : Type 0} (f : X → Y) (g : Y → Z) (xs : List X) → map g
 map_twice f g [] = refl
 map_twice f g (x ∷ xs) = ap (λ t. g (f x) ∷ t) (map_twice f g xs)
 
-said_position : (ds : List Definition) → position unidentified (map said ds) ≡ position (λ d. d.lacks_identifier) ds
+said_position : (ds : List Definition) → position unidentified (map definition_said ds) ≡ position (λ d. d.lacks_identifier) ds
 said_position ds =
-    ap (λ n. Rattle.std.proofs.Common.cond (Rattle.std.proofs.Common.ltb n (length (map said ds))) (Some n) None) (position-map said unidentified ds)
-    ∙ ap (λ n. Rattle.std.proofs.Common.cond (Rattle.std.proofs.Common.ltb (position_or_len (λ d. unidentified (said d)) ds) n) (Some (position_or_len (λ d. unidentified (said d)) ds)) None) (length-map ds said)
+    ap (λ n. Rattle.std.proofs.Common.cond (Rattle.std.proofs.Common.ltb n (length (map definition_said ds))) (Some n) None) (position-map definition_said unidentified ds)
+    ∙ ap (λ n. Rattle.std.proofs.Common.cond (Rattle.std.proofs.Common.ltb (position_or_len (λ d. unidentified (definition_said d)) ds) n) (Some (position_or_len (λ d. unidentified (definition_said d)) ds)) None) (length-map ds definition_said)
 
-pub all_identified : (ds : List Definition) → position (λ d. d.lacks_identifier) ds ≡ None → AreIdentified (map said ds)
+pub all_identified : (ds : List Definition) → position (λ d. d.lacks_identifier) ds ≡ None → AreIdentified (map definition_said ds)
 all_identified ds e = said_position ds ∙ e
 
-pub one_unidentified : (ds : List Definition) (at : ℕ) → ((place : ℕ) × (at ≡ place + 1) × (position (λ d. d.lacks_identifier) ds ≡ Some place)) → IsFirstUnidentified (map said ds) at
+pub one_unidentified : (ds : List Definition) (at : ℕ) → ((place : ℕ) × (at ≡ place + 1) × (position (λ d. d.lacks_identifier) ds ≡ Some place)) → IsFirstUnidentified (map definition_said ds) at
 one_unidentified ds at h = record { place = h.0; at_is = h.1; here = said_position ds ∙ h.2 }
 
-pub names_again : (ds : List Definition) → map (λ d. (said d).name) ds ≡ names_of (map said ds)
-names_again ds = sym (map_twice said (λ s. s.name) ds)
+pub names_again : (ds : List Definition) → map (λ d. (definition_said d).name) ds ≡ names_said (map definition_said ds)
+names_again ds = sym (map_twice definition_said (λ s. s.name) ds)
 
 -- each class has the name of its record
 own_name : (kinds : KindCodes) (words : List Said) (s : Said) (p : Name × Class) → class_in kinds words s ≡ Some p → p.0 ≡ s.name
@@ -52,7 +52,7 @@ own_name kinds words s p e = go (type_by words s.word) e
     go None e = absurd cc
     go (Some t) e = ap (λ q. q.0) (sym (Rattle.std.proofs.lemmas.Option.same_Some _ p e))
 
-pub same_keys : (kinds : KindCodes) (words ss : List Said) (es : Classes) → map (class_in kinds words) ss ≡ map Some es → keys_of es ≡ names_of ss
+pub same_keys : (kinds : KindCodes) (words ss : List Said) (es : Classes) → map (class_in kinds words) ss ≡ map Some es → keys_of es ≡ names_said ss
 same_keys kinds words [] [] e = refl
 same_keys kinds words [] (x ∷ es) e = absurd cc
 same_keys kinds words (s ∷ ss) [] e = absurd cc

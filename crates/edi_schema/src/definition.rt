@@ -3,7 +3,7 @@
 ghost use Rattle.std.specs.Prelude.{◌≡◌, map, IfOk};
 ghost use Rattle.edi_line.specs.ZoneData.{entries};
 ghost use Rattle.edi_line.specs.Zones.{groups_of};
-ghost use Rattle.edi_schema.specs.inner.Drafts.{said, said_in};
+ghost use Rattle.edi_schema.specs.inner.Drafts.{definition_said, said_in};
 
 use crate::title::Title;
 use edi_line::Zone;
@@ -28,7 +28,7 @@ pub(crate) struct Definition<'a> {
 
 impl<'a> Definition<'a> {
     fn of(group: &'a [Zone<'_>]) -> Definition<'a>
-        ensures { said result ≡ said_in (entries group.now) }
+        ensures { definition_said result ≡ said_in (entries group.now) }
     {
         Definition {
             title: Title::of(group),
@@ -45,7 +45,7 @@ pub(crate) fn definitions<'a>(
     alloc: Global,
     zones: &'a [Zone<'_>],
 ) -> Result<Vec<Definition<'a>>, AllocError>
-    ensures { IfOk result (λ all. map said all.items ≡ map said_in (groups_of (entries zones.now))) }
+    ensures { IfOk result (λ all. map definition_said all.items ≡ map said_in (groups_of (entries zones.now))) }
 {
     let mut done = Vec::new(alloc);
     let mut rest = zones;

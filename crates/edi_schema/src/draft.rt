@@ -1,7 +1,7 @@
 //! What the records of the file of classes say of their classes: rule 603.
 
 ghost use Rattle.std.specs.Prelude.{◌≡◌, ◌+◌, Some, map, option_map, IfOk, IfErr};
-ghost use Rattle.edi_schema.specs.inner.Drafts.{named, said, word_in, type_by, class_in, drafted};
+ghost use Rattle.edi_schema.specs.inner.Drafts.{title_name, definition_said, word_in, type_by, class_in, drafted};
 ghost use Rattle.edi_schema.specs.Roles.{role_by};
 ghost use Rattle.edi_schema.specs.SchemaOf.{letter_read, is_number_type};
 ghost use Rattle.edi_schema.specs.inner.Steps.{IfEntry, IsFirstLacking};
@@ -53,9 +53,9 @@ pub(crate) struct Dictionary<'w, 'a> {
 
 /// The first TYP of the record that a pointer names.
 fn type_named<'a>(words: Dictionary<'_, 'a>, text: &[u8]) -> Option<Option<&'a [u8]>>
-    requires { map named words.titles.now.keys ≡ map (λ d. (said d).name) words.records.now }
+    requires { map title_name words.titles.now.keys ≡ map (λ d. (definition_said d).name) words.records.now }
     ensures { option_map (option_map (λ t. t.now)) result
-        ≡ option_map (λ word. word.word_type) (word_in (map said words.entry.records.now) text.now) }
+        ≡ option_map (λ word. word.word_type) (word_in (map definition_said words.entry.records.now) text.now) }
 {
     let pointer = Pointer::read(text)?;
     let title = Title {
@@ -68,9 +68,9 @@ fn type_named<'a>(words: Dictionary<'_, 'a>, text: &[u8]) -> Option<Option<&'a [
 
 /// The first TYP of the record that the DIP of this one names; there is none where it has no DIP.
 fn type_of<'a>(words: Dictionary<'_, 'a>, definition: &Definition<'_>) -> Option<Option<&'a [u8]>>
-    requires { map named words.titles.now.keys ≡ map (λ d. (said d).name) words.records.now }
+    requires { map title_name words.titles.now.keys ≡ map (λ d. (definition_said d).name) words.records.now }
     ensures { option_map (option_map (λ t. t.now)) result
-        ≡ type_by (map said words.entry.records.now) (said definition.now).word }
+        ≡ type_by (map definition_said words.entry.records.now) (definition_said definition.now).word }
 {
     match definition.word {
         Some(text) => type_named(words, text),
@@ -84,8 +84,8 @@ fn draft_of<'a>(
     words: Dictionary<'_, '_>,
     definition: &Definition<'a>,
 ) -> Option<ClassDraft<'a>>
-    requires { map named words.titles.now.keys ≡ map (λ d. (said d).name) words.records.now }
-    ensures { option_map drafted result ≡ class_in kinds.now (map said words.entry.records.now) (said definition.now) }
+    requires { map title_name words.titles.now.keys ≡ map (λ d. (definition_said d).name) words.records.now }
+    ensures { option_map drafted result ≡ class_in kinds.now (map definition_said words.entry.records.now) (definition_said definition.now) }
 {
     let word_type = type_of(words, definition)?;
     Some(ClassDraft {
@@ -105,12 +105,12 @@ pub(crate) fn drafts<'a>(
     words: Dictionary<'_, '_>,
     records: &[Definition<'a>],
 ) -> Result<Vec<ClassDraft<'a>>, SchemaFault>
-    requires { map named words.titles.now.keys ≡ map (λ d. (said d).name) words.records.now }
+    requires { map title_name words.titles.now.keys ≡ map (λ d. (definition_said d).name) words.records.now }
     ensures drafts { IfOk result (λ drafts.
-        map (class_in kinds.now (map said words.entry.records.now)) (map said records.now)
+        map (class_in kinds.now (map definition_said words.entry.records.now)) (map definition_said records.now)
         ≡ map Some (map drafted drafts.items)) }
     ensures lacking { IfErr result (IfEntry (λ source rule at. (source ≡ Scd) × (rule ≡ 603)
-        × IsFirstLacking (class_in kinds.now (map said words.entry.records.now)) (map said records.now) at)) }
+        × IsFirstLacking (class_in kinds.now (map definition_said words.entry.records.now)) (map definition_said records.now) at)) }
 {
     let mut drafts = Vec::new(alloc);
     for (place, definition) in records.iter().enumerate() {

@@ -4,7 +4,7 @@ ghost use Rattle.edi_line.specs.ZoneData.{entries};
 ghost use Rattle.edi_line.specs.LineRules.{IsZonesOf, BreaksLineRule};
 ghost use Rattle.edi_line.specs.Zones.{HasShape};
 ghost use Rattle.edi_line.specs.Refusal.{IsUnbroken, IsLeastBroken};
-ghost use Rattle.edi_schema.specs.inner.Drafts.{said, drafted};
+ghost use Rattle.edi_schema.specs.inner.Drafts.{definition_said, drafted};
 ghost use Rattle.edi_schema.specs.inner.Steps.{IfLine, IfEntry, IfKinds, AreStated, AreMatched, AreUnmatched, StopsAt};
 
 use crate::by_role::ByRole;
@@ -73,8 +73,8 @@ fn stated<'a>(
     words: &[Definition<'_>],
 ) -> Result<Vec<ClassDraft<'a>>, SchemaFault>
     ensures stated { IfOk result (λ drafts.
-        AreStated (map said classes.now) (map said words.now) kinds.now (map drafted drafts.items)) }
-    ensures stopped { IfErr result (IfEntry (StopsAt (map said classes.now) (map said words.now) kinds.now)) }
+        AreStated (map definition_said classes.now) (map definition_said words.now) kinds.now (map drafted drafts.items)) }
+    ensures stopped { IfErr result (IfEntry (StopsAt (map definition_said classes.now) (map definition_said words.now) kinds.now)) }
 {
     identified(Source::Scd, classes)?;
     identified(Source::Dic, words)?;

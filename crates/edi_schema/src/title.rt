@@ -3,7 +3,7 @@
 ghost use Rattle.std.specs.Prelude.{◌≡◌, ◌++◌, List, ℕ};
 ghost use Rattle.edi_line.specs.ZoneData.{entries};
 ghost use Rattle.edi_hash.specs.Keys.{Holds};
-ghost use Rattle.edi_schema.specs.inner.Drafts.{name_in, named, name_parts};
+ghost use Rattle.edi_schema.specs.inner.Drafts.{draft_name, title_name, name_parts};
 
 use edi_hash::KeyNames;
 use edi_line::Zone;
@@ -20,7 +20,7 @@ pub(crate) struct Title<'a> {
 impl<'a> Title<'a> {
     /// The name of a record; what is missing is empty.
     pub(crate) fn of(group: &'a [Zone<'_>]) -> Title<'a>
-        ensures { named result ≡ name_in (entries group.now) }
+        ensures { title_name result ≡ draft_name (entries group.now) }
     {
         Title {
             rty: first_value(group, RTY).unwrap_or(&[]),
@@ -31,7 +31,7 @@ impl<'a> Title<'a> {
     /// Adds the name to those that decide the key of a table.
     pub(crate) fn add_to(self, names: &mut KeyNames)
         ensures { (parts : List (List ℕ)) → Holds names.old parts
-            → Holds names.new (parts ++ name_parts (named self.entry)) }
+            → Holds names.new (parts ++ name_parts (title_name self.entry)) }
     {
         names.add(self.rty);
         names.add(self.rid);

@@ -4,7 +4,7 @@ ghost use Rattle.std.specs.Prelude.{◌≡◌, ℕ, ◌+◌, Some, None, map, fl
 ghost use Rattle.std.specs.List.{IsDistinct};
 ghost use Rattle.edi_hash.specs.Keys.{keyed_by};
 ghost use Rattle.edi_schema.specs.Classes.{is_name};
-ghost use Rattle.edi_schema.specs.inner.Drafts.{named, said, name_parts};
+ghost use Rattle.edi_schema.specs.inner.Drafts.{title_name, definition_said, name_parts};
 ghost use Rattle.edi_schema.specs.inner.Steps.{IfEntry, IsFirstRepeat};
 
 use crate::definition::Definition;
@@ -38,7 +38,7 @@ pub(crate) fn identified(file: Source, records: &[Definition<'_>]) -> Result<(),
 
 /// The hash for the names of these records.
 fn hash_of(records: &[Definition<'_>]) -> NameHash
-    ensures { result ≡ keyed_by (flat_map (λ d. name_parts (said d).name) records.now) }
+    ensures { result ≡ keyed_by (flat_map (λ d. name_parts (definition_said d).name) records.now) }
 {
     let mut names = KeyNames::new();
     for record in records {
@@ -53,10 +53,10 @@ pub(crate) fn titles<'a>(
     file: Source,
     records: &[Definition<'a>],
 ) -> Result<IndexSet<Title<'a>, NameHash>, SchemaFault>
-    ensures titles { IfOk result (λ titles. map named titles.keys ≡ map (λ d. (said d).name) records.now) }
-    ensures distinct { IfOk result (λ titles. IsDistinct is_name (map (λ d. (said d).name) records.now)) }
+    ensures titles { IfOk result (λ titles. map title_name titles.keys ≡ map (λ d. (definition_said d).name) records.now) }
+    ensures distinct { IfOk result (λ titles. IsDistinct is_name (map (λ d. (definition_said d).name) records.now)) }
     ensures repeat { IfErr result (IfEntry (λ source rule at.
-        (source ≡ file) × (rule ≡ 602) × IsFirstRepeat (map (λ d. (said d).name) records.now) at)) }
+        (source ≡ file) × (rule ≡ 602) × IsFirstRepeat (map (λ d. (definition_said d).name) records.now) at)) }
 {
     let mut titles = IndexSet::with_hasher(alloc, hash_of(records));
     for (place, record) in records.iter().enumerate() {

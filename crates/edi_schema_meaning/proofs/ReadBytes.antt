@@ -13,7 +13,7 @@ use Rattle.edi_line.specs.LineKinds.{kind_of}
 use Rattle.edi_line.specs.Lines.{content_of, without_last}
 use Rattle.edi_line.specs.Spelling.{Reading, Spelling}
 use Rattle.edi_line.specs.Zones.{before_end, begins_group, ends_group, groups_of}
-use Rattle.edi_line.specs.inner.Lines.{contents_of, lines_of}
+use Rattle.edi_line.specs.inner.Lines.{line_contents, lines_in}
 use Rattle.edi_line.specs.inner.Spelling.{has_head, is_space, reading_of, spelling_of, stated_length}
 use Rattle.edi_line.specs.inner.Zones.{Part, part_by, part_of, parts_after, readings_of}
 use Rattle.edi_line.specs.inner.Zones.Part.{Blank, Continues, IsRemark, Begins}
@@ -120,7 +120,7 @@ whole_bytes (Begins z ∷ parts) h = (joined z.value (continuation parts) h.0 (c
 
 zones_bytes : (bytes : List ℕ) → AreBytes bytes → HaveBytes (zones_of bytes)
 zones_bytes bytes h =
-    whole_bytes (parts_after 0 (readings_of bytes)) (parts_bytes 0 (contents_of bytes) (each_content (lines_of bytes) (each_line (lines_of bytes) (subst AreBytes (sym (lines_exist bytes).joined) h))))
+    whole_bytes (parts_after 0 (readings_of bytes)) (parts_bytes 0 (line_contents bytes) (each_content (lines_in bytes) (each_line (lines_in bytes) (subst AreBytes (sym (lines_exist bytes).joined) h))))
 
 -- ---- the zones of records
 

@@ -10,7 +10,7 @@ use Rattle.edi_schema.specs.declared.role.Role.TheVariants.{Left, Right}
 use Rattle.edi_plan.specs.Plans.{PlanData, IsPlace, record_at, kind_rank}
 use Rattle.edi_plan.specs.Sides.{Side}
 use Rattle.edi_topo.specs.inner.Arcs.{RepeatsAnEarlierArc}
-use Rattle.edi_topo.specs.inner.AtRecord.{IsUnbrokenAt, IsLeastAt, IsUpTo, AreAhead, AreFindings}
+use Rattle.edi_topo.specs.inner.AtRecord.{IsUnbrokenAt, IsLeastAt, IsUpTo, AreNotBefore, AreRecordFindings}
 use Rattle.edi_topo.specs.inner.Nodes.{RepeatsAnEarlier}
 use Rattle.edi_topo.specs.declared.at_record.RecordFindings.{RecordFindings}
 use Rattle.edi_topo.specs.TopologyRules.{BreaksTopologyRule, StartsElsewhere, EndsElsewhere}
@@ -116,7 +116,7 @@ module _ (p : PlanData) where
   arc_breaks k d = repeats_arc refl (d.0, k, d.1, d.2, refl, d.3, d.4, d.5, d.6)
 
   -- the repeats are past a record that breaks no rule
-  pub ahead_more : (found : RecordFindings) (place : ℕ) → AreFindings p found → AreAhead found place → IsUnbrokenAt p place → AreAhead found (place + 1)
+  pub ahead_more : (found : RecordFindings) (place : ℕ) → AreRecordFindings p found → AreNotBefore found place → IsUnbrokenAt p place → AreNotBefore found (place + 1)
   ahead_more found place are ahead none = record {
     node = λ k e. past k (ahead.node k e) (λ same. none 403 (node_breaks place (has_it (RepeatsAnEarlier p) (result_err found.nodes) place (e ∙ ap Some same) are.node_repeat))) (cases_order place k);
     arc = λ k e. past k (ahead.arc k e) (λ same. none 405 (arc_breaks place (has_it (RepeatsAnEarlierArc p) (result_err found.arcs) place (e ∙ ap Some same) are.arc_repeat))) (cases_order place k);

@@ -5,7 +5,7 @@ ghost use Rattle.std.specs.Result.{result_err};
 ghost use Rattle.edi_record.specs.declared.record.Kind.TheVariants.{Par};
 ghost use Rattle.edi_plan.specs.Places.{places_of};
 ghost use Rattle.edi_topo.specs.Arcs.{forward_keys, IsForwardRanking};
-ghost use Rattle.edi_topo.specs.inner.Arcs.{IsFirstRepeatIfAny};
+ghost use Rattle.edi_topo.specs.inner.Arcs.{IsFirstRepeatedArcIfAny};
 
 use crate::fault::TieFault;
 use crate::forward_points::ForwardPoints;
@@ -86,7 +86,7 @@ impl<'a> Layer for ArcLayer<'a> {
 /// either direction.
 pub(crate) fn ranks_or_repeat(alloc: Global, plan: &Plan) -> Result<Result<Ranks, u32>, AllocError>
     ensures ranks { IfOk result (λ found. IfOk found (IsForwardRanking plan.now)) }
-    ensures repeat { IfOk result (λ found. IsFirstRepeatIfAny plan.now (result_err found)) }
+    ensures repeat { IfOk result (λ found. IsFirstRepeatedArcIfAny plan.now (result_err found)) }
 {
     let arcs = ArcLayer::in_plan(plan);
     match ranks(alloc, &arcs) {

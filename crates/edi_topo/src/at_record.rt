@@ -7,7 +7,7 @@ ghost use Rattle.edi_record.specs.declared.record.Kind.TheVariants.{Par, Pfe, Pn
 ghost use Rattle.edi_plan.specs.Joined.{IsJoined};
 ghost use Rattle.edi_plan.specs.Plans.{IsPlace, record_at};
 ghost use Rattle.edi_topo.specs.inner.Arcs as arcs_;
-ghost use Rattle.edi_topo.specs.inner.AtRecord.{AreAhead, AreFindings, IsLeastAtIfAny, IsUpTo};
+ghost use Rattle.edi_topo.specs.inner.AtRecord.{AreNotBefore, AreRecordFindings, IsLeastAtIfAny, IsUpTo};
 ghost use Rattle.edi_topo.specs.inner.Faces.{AreFaced};
 ghost use Rattle.edi_topo.specs.inner.Nodes as nodes_;
 ghost use Rattle.edi_topo.specs.TopologyRules.{BreaksTopologyRule};
@@ -33,7 +33,7 @@ pub(crate) struct RecordFindings {
 impl RecordFindings {
     pub(crate) fn of(alloc: Global, plan: &Plan) -> Result<RecordFindings, AllocError>
         requires { IsJoined plan.now }
-        ensures { IfOk result (AreFindings plan.now) }
+        ensures { IfOk result (AreRecordFindings plan.now) }
     {
         Ok(RecordFindings {
             nodes: nodes::ranks_or_repeat(alloc, plan)?,
@@ -66,7 +66,7 @@ fn is_place(repeat: Option<u32>, place: u32) -> bool
 fn rule_of_node(plan: &Plan, repeat: Option<u32>, place: u32) -> Option<u16>
     requires place { IsPlace plan.now place }
     requires node { (record_at plan.now place).kind ≡ Pno }
-    requires first { nodes_.IsFirstRepeatIfAny plan.now repeat }
+    requires first { nodes_.IsFirstRepeatedNodeIfAny plan.now repeat }
     requires ahead { IsUpTo repeat place }
     ensures { IsLeastAtIfAny plan.now place result }
 {
@@ -82,7 +82,7 @@ fn rule_of_arc(plan: &Plan, repeat: Option<u32>, place: u32) -> Option<u16>
     requires joined { IsJoined plan.now }
     requires place { IsPlace plan.now place }
     requires arc { (record_at plan.now place).kind ≡ Par }
-    requires first { arcs_.IsFirstRepeatIfAny plan.now repeat }
+    requires first { arcs_.IsFirstRepeatedArcIfAny plan.now repeat }
     requires ahead { IsUpTo repeat place }
     ensures { IsLeastAtIfAny plan.now place result }
 {
@@ -117,8 +117,8 @@ fn rule_of_face(plan: &Plan, faced: &[bool], place: u32) -> Option<u16>
 fn rule_at(plan: &Plan, findings: &RecordFindings, place: u32) -> Option<u16>
     requires joined { IsJoined plan.now }
     requires place { IsPlace plan.now place }
-    requires findings { AreFindings plan.now findings.now }
-    requires ahead { AreAhead findings.now place }
+    requires findings { AreRecordFindings plan.now findings.now }
+    requires ahead { AreNotBefore findings.now place }
     ensures { IsLeastAtIfAny plan.now place result }
 {
     match plan.kind(place) {
@@ -132,7 +132,7 @@ fn rule_at(plan: &Plan, findings: &RecordFindings, place: u32) -> Option<u16>
 /// The first record that breaks a rule of topology, by its place, and the least rule there.
 pub(crate) fn first_broken(plan: &Plan, findings: &RecordFindings) -> Option<(u16, u32)>
     requires joined { IsJoined plan.now }
-    requires findings { AreFindings plan.now findings.now }
+    requires findings { AreRecordFindings plan.now findings.now }
     ensures { MatchOption result (IsUnbroken (BreaksTopologyRule plan.now))
         (λ found. IsLeastBroken (BreaksTopologyRule plan.now) found.0 (found.1 + 1)) }
 {

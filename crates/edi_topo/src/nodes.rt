@@ -7,7 +7,7 @@ ghost use Rattle.edi_plan.specs.Places.{places_of};
 ghost use Rattle.edi_plan.specs.Plans.{IsPlace, record_at};
 ghost use Rattle.edi_topo.specs.NodeKeys.{node_keys, no_node, IsNodeRanking};
 ghost use Rattle.edi_topo.specs.TopologyRules.{AreEqualNodes};
-ghost use Rattle.edi_topo.specs.inner.Nodes.{IsFirstRepeatIfAny};
+ghost use Rattle.edi_topo.specs.inner.Nodes.{IsFirstRepeatedNodeIfAny};
 
 use crate::fault::TieFault;
 use crate::layer::Layer;
@@ -87,7 +87,7 @@ impl<'a> Layer for NodeLayer<'a> {
 /// The numbers of the nodes, in file order; or the place of the first that is equal to an earlier one.
 pub(crate) fn ranks_or_repeat(alloc: Global, plan: &Plan) -> Result<Result<Ranks, u32>, AllocError>
     ensures ranks { IfOk result (λ found. IfOk found (IsNodeRanking plan.now)) }
-    ensures repeat { IfOk result (λ found. IsFirstRepeatIfAny plan.now (result_err found)) }
+    ensures repeat { IfOk result (λ found. IsFirstRepeatedNodeIfAny plan.now (result_err found)) }
 {
     plan.keeps();
     let nodes = NodeLayer::in_plan(plan);

@@ -1,7 +1,7 @@
 ghost use Rattle.std.specs.Prelude.{◌≡◌, OnOk, IfOk, IfErr};
 ghost use Rattle.edi_line.specs.Refusal.{IsUnbroken};
 ghost use Rattle.edi_topo.specs.Arcs.{IsForwardRanking};
-ghost use Rattle.edi_topo.specs.inner.AtRecord.{AreFindings};
+ghost use Rattle.edi_topo.specs.inner.AtRecord.{AreRecordFindings};
 ghost use Rattle.edi_topo.specs.NodeKeys.{IsNodeRanking};
 
 use crate::at_record::{RecordFindings, first_broken};
@@ -100,7 +100,7 @@ impl Sound {
     /// The plan with the numbers that were found, where no record repeats an earlier one.
     fn of(plan: Plan, findings: RecordFindings) -> Sound
         requires sound { IsUnbroken (BreaksTopologyRule plan) }
-        requires findings { AreFindings plan findings }
+        requires findings { AreRecordFindings plan findings }
         ensures { result ≡ plan }
     {
         match (findings.nodes, findings.arcs) {

@@ -5,7 +5,7 @@ ghost use Rattle.edi_line.specs.Printing.{printed_zone, zone_headed};
 ghost use Rattle.edi_record.specs.CanonicalZones.{class_text};
 ghost use Rattle.edi_schema.specs.Classes.{Classes};
 ghost use Rattle.edi_write.specs.Layout.{class_name_of};
-ghost use Rattle.edi_write.specs.inner.ClassLines.{IsLineOf};
+ghost use Rattle.edi_write.specs.inner.ClassLines.{IsLineOfItsClass};
 
 use crate::heads::CLASS;
 use crate::page::Page;
@@ -23,7 +23,7 @@ pub(crate) struct ClassLine {
 impl ClassLine {
     /// That of no class.
     pub(crate) fn new(alloc: Global) -> ClassLine
-        ensures { (s : Classes) → IsLineOf s result }
+        ensures { (s : Classes) → IsLineOfItsClass s result }
     {
         ClassLine {
             class: None,
@@ -33,9 +33,9 @@ impl ClassLine {
 
     /// Makes it that of a class, if it isn't.
     fn turn_to(&mut self, schema: &Schema, class: ClassRef) -> Result<(), AllocError>
-        requires line { IsLineOf schema.now self.old }
+        requires line { IsLineOfItsClass schema.now self.old }
         requires class { class < length schema.now }
-        ensures line { OnOk result (IsLineOf schema.now self.new) }
+        ensures line { OnOk result (IsLineOfItsClass schema.now self.new) }
         ensures printed { OnOk result (self.new.page.file.items
             ≡ printed_zone (zone_headed (codes "SCPCP") (class_text (class_name_of schema.now class)))) }
     {
@@ -55,9 +55,9 @@ impl ClassLine {
         schema: &Schema,
         class: ClassRef,
     ) -> Result<(), AllocError>
-        requires line { IsLineOf schema.now self.old }
+        requires line { IsLineOfItsClass schema.now self.old }
         requires class { class < length schema.now }
-        ensures line { OnOk result (IsLineOf schema.now self.new) }
+        ensures line { OnOk result (IsLineOfItsClass schema.now self.new) }
         ensures written { OnOk result (page.new.file.items ≡ page.old.file.items
             ++ printed_zone (zone_headed (codes "SCPCP") (class_text (class_name_of schema.now class)))) }
     {

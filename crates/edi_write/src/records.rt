@@ -9,7 +9,7 @@ ghost use Rattle.edi_plan.specs.Plans.{IsPlace, record_at};
 ghost use Rattle.edi_rank.specs.Arranged.{arranged_record, old_places};
 ghost use Rattle.edi_rank.specs.EndOrder.{OthersInOrder};
 ghost use Rattle.edi_rank.specs.Labelling.{AreLabels, number_of, order_of};
-ghost use Rattle.edi_write.specs.inner.ClassLines.{IsLineOf};
+ghost use Rattle.edi_write.specs.inner.ClassLines.{IsLineOfItsClass};
 ghost use Rattle.edi_write.specs.inner.Heads.{headed};
 ghost use Rattle.edi_write.specs.Layout.{attribute_zones, head_zones};
 ghost use Rattle.edi_write.specs.inner.Numbered.{arc_body, link_body, numbered_body, numbered_zones, ordered_tail};
@@ -136,8 +136,8 @@ impl<'a> LabelledPlan<'a> {
         place: u32,
     ) -> Result<(), AllocError>
         requires place { IsPlace self.now.plan place }
-        requires line { IsLineOf self.now.classes line.old }
-        ensures line { OnOk result (IsLineOf self.now.classes line.new) }
+        requires line { IsLineOfItsClass self.now.classes line.old }
+        ensures line { OnOk result (IsLineOfItsClass self.now.classes line.new) }
         ensures written { OnOk result (page.new.file.items ≡ page.old.file.items
             ++ printed (head_zones self.now.classes (number_of self.now.labels place)
             (arranged_record self.now.classes self.now.labels self.now.plan place))) }
@@ -194,8 +194,8 @@ impl<'a> LabelledPlan<'a> {
         place: u32,
     ) -> Result<(), AllocError>
         requires place { IsPlace self.now.plan place }
-        requires line { IsLineOf self.now.classes line.old }
-        ensures line { OnOk result (IsLineOf self.now.classes line.new) }
+        requires line { IsLineOfItsClass self.now.classes line.old }
+        ensures line { OnOk result (IsLineOfItsClass self.now.classes line.new) }
         ensures written { OnOk result (page.new.file.items ≡ page.old.file.items
             ++ printed (numbered_zones self.now.classes self.now.labels self.now.plan place)) }
     {

@@ -5,7 +5,7 @@ use Rattle.std.specs.Str.{str_to_ascii_lowercase}
 use Rattle.edi_line.specs.Refusal.{Test, test}
 use Rattle.edi_delivery.specs.NameParts.{is_same_name}
 use Rattle.edi_delivery.specs.Lots.{files_of}
-use Rattle.edi_delivery.specs.inner.Steps.{repeats}
+use Rattle.edi_delivery.specs.inner.Steps.{repeats_earlier}
 use Rattle.edi_delivery.specs.declared.lot.Lot.{Lot}
 use Rattle.edi_delivery.specs.declared.lots.LotsSoFar.{LotsSoFar}
 
@@ -26,7 +26,7 @@ repeats_name lots lot = list_any (λ (earlier : Lot). is_same_name lot.name earl
 
 -- a lot has a file twice, or one of these lots has it
 abbrev pub repeats_file : List Lot → Lot → Bool
-repeats_file lots lot = repeats (lower_files lots) (map str_to_ascii_lowercase (files_of lot))
+repeats_file lots lot = repeats_earlier (lower_files lots) (map str_to_ascii_lowercase (files_of lot))
 
 -- the rules 709 and 710, of a lot behind these
 abbrev pub take_tests : List Lot → Lot → List Test

@@ -11,6 +11,6 @@ IfRule P (Memory e) = ⊤
 IfRule P (Broken rule) = P rule
 
 -- some of the later is among the earlier, or among the later before it
-abbrev pub repeats : List (List ℕ) → List (List ℕ) → Bool
-repeats earlier [] = false
-repeats earlier (x ∷ xs) = list_any (bytes_eq x) earlier || repeats (earlier ++ x ∷ []) xs
+abbrev pub repeats_earlier : List (List ℕ) → List (List ℕ) → Bool
+repeats_earlier earlier [] = false
+repeats_earlier earlier (x ∷ xs) = list_any (bytes_eq x) earlier || repeats_earlier (earlier ++ x ∷ []) xs

@@ -10,7 +10,7 @@ use Rattle.edi_delivery.specs.declared.fault.LotFault.{LotFault}
 use Rattle.edi_delivery.specs.declared.fault.LotFault.TheVariants.{Memory as LotMemory, Broken as LotBroken}
 
 -- these records state these lots, and none of them breaks a rule
-pub record IsTaken (before : List (List ZoneData)) (lots : List Lot) : Type 0 where
+pub record AreTakenLots (before : List (List ZoneData)) (lots : List Lot) : Type 0 where
   pub states : StatesLots before lots
   pub sound : (rule place : ℕ) → ¬ (BreaksRuleAt before rule place)
 

@@ -3,7 +3,7 @@ use Rattle.std.specs.Prelude.{◌≡◌, ℕ, List, [], ◌∷◌, ◌++◌}
 use Rattle.edi_line.specs.Feeding.{Refused, EndedPart}
 use Rattle.edi_line.specs.Feeding.Refused.{ByMemory, ByRule}
 use Rattle.edi_line.specs.Spelling.{Reading}
-use Rattle.edi_line.specs.inner.Held.{Takes, Refuses}
+use Rattle.edi_line.specs.inner.Held.{TakesNextLine, BreaksAtNext}
 use Rattle.edi_line.specs.inner.Zones.{readings_of}
 use Rattle.edi_line.specs.declared.feed.Refusal.{Refusal}
 use Rattle.edi_line.specs.declared.feed.Refusal.TheVariants as refusal
@@ -17,7 +17,7 @@ refusal_seen (refusal.Broken rule at) = ByRule rule at
 -- it took these lines one by one
 abbrev pub TakesAll : Reader → List Reading → Reader → Type 0
 TakesAll old [] new = old ≡ new
-TakesAll old (line ∷ lines) new = (mid : Reader) × Takes old line mid × TakesAll mid lines new
+TakesAll old (line ∷ lines) new = (mid : Reader) × TakesNextLine old line mid × TakesAll mid lines new
 
 -- it took the lines of the bytes that have ended, and left the rest
 pub record TakesFront (old : Reader) (bytes rest : List ℕ) (new : Reader) : Type 0 where
@@ -33,7 +33,7 @@ pub record RefusesOne (old : Reader) (lines : List Reading) (rule place : ℕ) :
   pub cut : lines ≡ before ++ line ∷ after
   pub mid : Reader
   pub takes : TakesAll old before mid
-  pub refuses : Refuses mid line rule place
+  pub refuses : BreaksAtNext mid line rule place
 
 -- it refuses one of the lines of the bytes that have ended
 pub record RefusesIn (old : Reader) (bytes : List ℕ) (rule place : ℕ) : Type 0 where

@@ -60,16 +60,16 @@ no_zones = record { done = []; open_zone = None }
 abbrev pub closed : Zoned → List ZoneData
 closed z = z.done ++ option_to_list z.open_zone
 
-abbrev pub step : Part → Zoned → Zoned
-step Blank z = z
-step (Continues value) z = record { done = z.done; open_zone = option_map (with_more value) z.open_zone }
-step IsRemark z = record { done = closed z; open_zone = None }
-step (Begins zone) z = record { done = closed z; open_zone = Some zone }
+abbrev pub zoned_step : Part → Zoned → Zoned
+zoned_step Blank z = z
+zoned_step (Continues value) z = record { done = z.done; open_zone = option_map (with_more value) z.open_zone }
+zoned_step IsRemark z = record { done = closed z; open_zone = None }
+zoned_step (Begins zone) z = record { done = closed z; open_zone = Some zone }
 
 -- the zones after these parts
 abbrev pub zoned_after : Zoned → List Part → Zoned
 zoned_after z [] = z
-zoned_after z (part ∷ parts) = zoned_after (step part z) parts
+zoned_after z (part ∷ parts) = zoned_after (zoned_step part z) parts
 
 -- the zone that a line with this number begins is opened
 abbrev pub opened : ℕ → Option Spelling → Zoned → Zoned
@@ -82,22 +82,22 @@ zoned r = zoned_list r.zones
 -- ---- the reader
 
 -- one line more was taken
-pub record Takes (old : Reader) (line : Reading) (new : Reader) : Type 0 where
+pub record TakesNextLine (old : Reader) (line : Reading) (new : Reader) : Type 0 where
   pub no_rule : rule_of old.order line ≡ None
   pub counted : new.line ≡ old.line + 1
   pub order : new.order ≡ noted old.order line
-  pub zones : zoned new ≡ step (part_of (old.line + 1) line) (zoned old)
+  pub zones : zoned new ≡ zoned_step (part_of (old.line + 1) line) (zoned old)
 
 -- one line more was taken, but for the zone that begins there
 pub record Steps (old : Reader) (line : Reading) (begun : Option Spelling) (new : Reader) : Type 0 where
   pub no_rule : rule_of old.order line ≡ None
   pub counted : new.line ≡ old.line + 1
   pub order : new.order ≡ noted old.order line
-  pub zones : opened (old.line + 1) begun (zoned new) ≡ step (part_of (old.line + 1) line) (zoned old)
+  pub zones : opened (old.line + 1) begun (zoned new) ≡ zoned_step (part_of (old.line + 1) line) (zoned old)
 
 -- the rule that the next line breaks, and its place
-abbrev pub Refuses : Reader → Reading → ℕ → ℕ → Type 0
-Refuses r line rule place = (place ≡ r.line + 1) × (rule_of r.order line ≡ Some rule)
+abbrev pub BreaksAtNext : Reader → Reading → ℕ → ℕ → Type 0
+BreaksAtNext r line rule place = (place ≡ r.line + 1) × (rule_of r.order line ≡ Some rule)
 
 -- the reader holds what these lines say, which break no rule
 pub record Stands (done : List Reading) (r : Reader) : Type 0 where

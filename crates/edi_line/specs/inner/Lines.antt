@@ -5,10 +5,10 @@ use Rattle.edi_line.specs.Bytes.{line_feed}
 use Rattle.edi_line.specs.Lines.{content_of}
 
 -- the only list of lines that there is for these bytes
-abbrev pub lines_of : List ℕ → List (List ℕ)
-lines_of [] = []
-lines_of (c ∷ cs) = if c == line_feed then ((c ∷ []) ∷ lines_of cs) else onto_first c (lines_of cs)
+abbrev pub lines_in : List ℕ → List (List ℕ)
+lines_in [] = []
+lines_in (c ∷ cs) = if c == line_feed then ((c ∷ []) ∷ lines_in cs) else onto_first c (lines_in cs)
 
 -- the contents of all lines
-abbrev pub contents_of : List ℕ → List (List ℕ)
-contents_of bytes = map content_of (lines_of bytes)
+abbrev pub line_contents : List ℕ → List (List ℕ)
+line_contents bytes = map content_of (lines_in bytes)

@@ -11,9 +11,9 @@ abbrev pub is_sign_byte : ℕ → Bool
 is_sign_byte c = (c == plus) || (c == minus)
 
 -- the sign in front, if any
-abbrev pub sign_of : List ℕ → List ℕ
-sign_of [] = []
-sign_of (c ∷ cs) = if is_sign_byte c then (c ∷ []) else []
+abbrev pub sign_bytes : List ℕ → List ℕ
+sign_bytes [] = []
+sign_bytes (c ∷ cs) = if is_sign_byte c then (c ∷ []) else []
 
 -- what follows the sign
 abbrev pub body_of : List ℕ → List ℕ
@@ -43,15 +43,15 @@ fraction_number digits =
     if list_all is_zero (drop 6 digits) && all_ascii_digits (take 6 digits)
     then Some (digits_value 10 (take 6 digits) * 10 ^ (6 - length (take 6 digits))) else None
 
-abbrev pub number_by : List ℕ → Option ℕ → Option ℕ → Option ℤ
-number_by sign (Some units) (Some millionths) = Some (signed_by sign (units * UNIT + millionths))
-number_by sign (Some units) None = None
-number_by sign None millionths = None
+abbrev pub millionths_by : List ℕ → Option ℕ → Option ℕ → Option ℤ
+millionths_by sign (Some units) (Some millionths) = Some (signed_by sign (units * UNIT + millionths))
+millionths_by sign (Some units) None = None
+millionths_by sign None millionths = None
 
 -- the number that a text spells, if it spells one: the same as `IsNumberText`, which `number_is` proves
 unfoldable pub number : List ℕ → Option ℤ
 number text =
     if nat_lt 0 (length (whole_of (body_of text)) + length (fraction_of (body_of text)))
-    then number_by (sign_of text) (whole_number (whole_of (body_of text)))
+    then millionths_by (sign_bytes text) (whole_number (whole_of (body_of text)))
     (fraction_number (fraction_of (body_of text)))
     else None

@@ -10,10 +10,10 @@ all_but_last [] = []
 all_but_last (x ∷ []) = []
 all_but_last (x ∷ (y ∷ ys)) = x ∷ all_but_last (y ∷ ys)
 
-abbrev pub last_of : {X : Type 0} → List X → Option X
-last_of [] = None
-last_of (x ∷ []) = Some x
-last_of (x ∷ (y ∷ ys)) = last_of (y ∷ ys)
+abbrev pub last_if_any : {X : Type 0} → List X → Option X
+last_if_any [] = None
+last_if_any (x ∷ []) = Some x
+last_if_any (x ∷ (y ∷ ys)) = last_if_any (y ∷ ys)
 
 -- those that are done, where the last is open or isn't
 abbrev pub done_of : {X : Type 0} → Bool → List X → List X
@@ -22,7 +22,7 @@ done_of false xs = xs
 
 -- the one that is open
 abbrev pub open_of : {X : Type 0} → Bool → List X → Option X
-open_of true xs = last_of xs
+open_of true xs = last_if_any xs
 open_of false xs = None
 
 abbrev pub done_in : ZoneList → List Zone

@@ -3,14 +3,14 @@ use Rattle.std.specs.Prelude.{ℕ, suc, List, [], ◌∷◌, ◌++◌, Some, Non
 use Rattle.edi_line.specs.ZoneData.{ZoneData}
 use Rattle.edi_line.specs.LineKinds.{kind_of}
 use Rattle.edi_line.specs.Spelling.{Spelling, Reading}
-use Rattle.edi_line.specs.inner.Lines.{contents_of}
+use Rattle.edi_line.specs.inner.Lines.{line_contents}
 use Rattle.edi_line.specs.inner.Spelling.{reading_of}
 use Rattle.edi_line.specs.declared.order.ZoneKind.{ZoneKind}
 use Rattle.edi_line.specs.declared.order.ZoneKind.TheVariants.{Bom, Cse, Rty, Eom, Other, Next, Remark}
 
 -- what the lines of a file say, blank ones too
 abbrev pub readings_of : List ℕ → List Reading
-readings_of bytes = map reading_of (contents_of bytes)
+readings_of bytes = map reading_of (line_contents bytes)
 
 -- what a line is to the zones: nothing, more of a value, a remark, or the head of a zone
 pub data Part : Type 0 where

@@ -74,8 +74,8 @@ found list hints kind rid =
     first_named list (record { rty = kind_code kind; rid = rid }) (slots_of hints.slots.items kind rid)
 
 -- each of the first so many records is found by its name, but for links where these rise
-abbrev pub HasFirst : ℕ → Bool → List Record → NameHints → Type 0
-HasFirst n links_rise list hints = (k : ℕ) (r : Record) → k < n → slice_get list k ≡ Some r
+abbrev pub FindsByName : ℕ → Bool → List Record → NameHints → Type 0
+FindsByName n links_rise list hints = (k : ℕ) (r : Record) → k < n → slice_get list k ≡ Some r
     → is_tabled links_rise r.kind ≡ true → found list hints r.kind r.rid ≡ Some k
 
 -- and each record at all, but for these links

@@ -14,24 +14,24 @@ use Rattle.edi_plan.specs.declared.names.RecordNameRef.{RecordNameRef}
 use Rattle.edi_plan.specs.declared.names.Names.{Names}
 
 -- a name without where it lies in memory
-abbrev pub named : RecordNameRef → Name
-named n = record { rty = kind_code n.kind; rid = n.rid.now }
+abbrev pub name_lent : RecordNameRef → Name
+name_lent n = record { rty = kind_code n.kind; rid = n.rid.now }
 
 -- the place that a table has for a name
 abbrev pub place_in : List (RecordNameRef × ℕ) → RecordNameRef → Option ℕ
-place_in table name = lookup (λ n. is_name (named name) (named n)) table
+place_in table name = lookup (λ n. is_name (name_lent name) (name_lent n)) table
 
 -- the new table has this place for the name if the old has none, and what the old has for each other
-abbrev pub IsPut : List (RecordNameRef × ℕ) → RecordNameRef → ℕ → List (RecordNameRef × ℕ) → Type 0
-IsPut old name place new =
+abbrev pub IsPlaceAdded : List (RecordNameRef × ℕ) → RecordNameRef → ℕ → List (RecordNameRef × ℕ) → Type 0
+IsPlaceAdded old name place new =
     (other : RecordNameRef) → place_in new other
-    ≡ option_or (place_in old other) (if is_name (named name) (named other) then Some place else None)
+    ≡ option_or (place_in old other) (if is_name (name_lent name) (name_lent other) then Some place else None)
 
 -- each name of a record that is no link has the place of the first record of that name, and no other such name has one
-abbrev pub AreNamesOf : List Record → Names → Type 0
-AreNamesOf list names =
+abbrev pub AreFirstPlaces : List Record → Names → Type 0
+AreFirstPlaces list names =
     (name : RecordNameRef) → is_link name.kind ≡ false
-    → place_in names.places.entries name ≡ place_named list (named name)
+    → place_in names.places.entries name ≡ place_named list (name_lent name)
 
 -- the names of such records go into a table: all, but for those of links where these rise
 abbrev pub is_tabled : Bool → Kind → Bool
@@ -41,16 +41,16 @@ abbrev pub tabled : Bool → List Record → List Record
 tabled links_rise list = filter (λ r. is_tabled links_rise r.kind) list
 
 -- the record at this place has the name of an earlier one
-abbrev pub RepeatsAt : List Record → ℕ → Type 0
-RepeatsAt list k =
+abbrev pub RepeatsNameAt : List Record → ℕ → Type 0
+RepeatsNameAt list k =
     (j : ℕ) × (q r : Record) × (j < k) × (slice_get list j ≡ Some q) × (slice_get list k ≡ Some r)
     × (own_name q ≡ own_name r)
 
 -- and none before it does
-pub record IsFirstRepeat (list : List Record) (k : ℕ) : Type 0 where
-  pub repeats : RepeatsAt list k
-  pub none_before : (j : ℕ) → j < k → ¬ (RepeatsAt list j)
+pub record IsFirstRepeatedName (list : List Record) (k : ℕ) : Type 0 where
+  pub repeats : RepeatsNameAt list k
+  pub none_before : (j : ℕ) → j < k → ¬ (RepeatsNameAt list j)
 
 -- the first repeat, or there is none
-abbrev pub IsFirstRepeatIfAny : List Record → Option ℕ → Type 0
-IsFirstRepeatIfAny list found = MatchOption found ((j : ℕ) → ¬ (RepeatsAt list j)) (IsFirstRepeat list)
+abbrev pub IsFirstRepeatedNameIfAny : List Record → Option ℕ → Type 0
+IsFirstRepeatedNameIfAny list found = MatchOption found ((j : ℕ) → ¬ (RepeatsNameAt list j)) (IsFirstRepeatedName list)

@@ -7,8 +7,8 @@ use Rattle.edi_plan.specs.declared.record.PlanEnd.{PlanEnd}
 use Rattle.edi_plan.specs.declared.record.PlanRecord.{PlanRecord}
 
 -- the record with a head and parts
-abbrev pub record_of : AnyRecord PlanHead PlanAttribute PlanEnd → PlanRecord
-record_of e = record {
+abbrev pub plan_record_of : AnyRecord PlanHead PlanAttribute PlanEnd → PlanRecord
+plan_record_of e = record {
   kind = e.head.kind;
   class = e.head.class;
   role = e.head.role;
@@ -19,5 +19,5 @@ record_of e = record {
 }
 
 -- these records in their order
-abbrev pub records_of : List (AnyRecord PlanHead PlanAttribute PlanEnd) → List PlanRecord
-records_of es = map record_of es
+abbrev pub plan_records_of : List (AnyRecord PlanHead PlanAttribute PlanEnd) → List PlanRecord
+plan_records_of es = map plan_record_of es

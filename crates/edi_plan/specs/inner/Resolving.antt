@@ -9,7 +9,7 @@ use Rattle.edi_record.specs.declared.record.Record.{Record}
 use Rattle.edi_schema.specs.Classes.{Classes, place_of, role_named}
 use Rattle.edi_schema.specs.declared.role.Role.{Role}
 use Rattle.edi_schema.specs.declared.role.Role.TheVariants.{Plain}
-use Rattle.edi_plan.specs.inner.Names.{IsFirstRepeatIfAny}
+use Rattle.edi_plan.specs.inner.Names.{IsFirstRepeatedNameIfAny}
 use Rattle.edi_plan.specs.PlanOf.{StatesPlanAttribute}
 use Rattle.edi_record.specs.Records.{is_link}
 use Rattle.edi_plan.specs.Plans.{first_of}
@@ -31,8 +31,8 @@ IsUnresolved breaks (Memory e) = ⊤
 IsUnresolved breaks (Broken rule) = breaks rule
 
 -- the class of an attribute isn't of type ATT, or is none of the schema's
-abbrev pub LacksClass : Classes → Attribute → Type 0
-LacksClass s a = (a.atp.rty ≢ codes "ATT") ⊎ (place_of s a.atp ≡ None)
+abbrev pub HasNoAttributeClass : Classes → Attribute → Type 0
+HasNoAttributeClass s a = (a.atp.rty ≢ codes "ATT") ⊎ (place_of s a.atp ≡ None)
 
 abbrev pub lacks_class : Classes → Attribute → Bool
 lacks_class s a = not (bytes_eq a.atp.rty (codes "ATT")) || is_none (place_of s a.atp)
@@ -55,9 +55,9 @@ abbrev pub first_subset : List Record → Option Subset
 first_subset list = option_map (λ e. record { lot = e.lot; subset = e.subset }) (first_of (flat_map (λ r. r.ends) list))
 
 -- an end with its target, as the plan has it
-abbrev pub Gives : Option Target → End → PlanEnd → Type 0
-Gives None e p = ⊥
-Gives (Some t) e p = (p.target ≡ t.place) × (p.sns ≡ e.sns)
+abbrev pub GivesEnd : Option Target → End → PlanEnd → Type 0
+GivesEnd None e p = ⊥
+GivesEnd (Some t) e p = (p.target ≡ t.place) × (p.sns ≡ e.sns)
 
 abbrev pub AreGiven : List (Option Target) → List End → List PlanEnd → Type 0
 AreGiven [] [] [] = ⊤
@@ -65,7 +65,7 @@ AreGiven [] [] (p ∷ ps) = ⊥
 AreGiven [] (e ∷ es) ps = ⊥
 AreGiven (t ∷ ts) [] ps = ⊥
 AreGiven (t ∷ ts) (e ∷ es) [] = ⊥
-AreGiven (t ∷ ts) (e ∷ es) (p ∷ ps) = Gives t e p × AreGiven ts es ps
+AreGiven (t ∷ ts) (e ∷ es) (p ∷ ps) = GivesEnd t e p × AreGiven ts es ps
 
 -- the role of a link, and none of the four for what is no link
 abbrev pub role_of_link : Classes → Record → Role
@@ -93,6 +93,6 @@ pub record IsPlanned (s : Classes) (targets : List (Option Target)) (r : Record)
 
 -- the first repeat of a name, the targets of all ends, and the lot and the subset of the first
 pub record AreReferences (list : List Record) (r : References) : Type 0 where
-  pub repeat : IsFirstRepeatIfAny list r.repeat
+  pub repeat : IsFirstRepeatedNameIfAny list r.repeat
   pub targets : AreTargets list list r.targets.items
   pub subset : r.subset ≡ first_subset list

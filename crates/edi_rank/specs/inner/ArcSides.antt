@@ -20,7 +20,7 @@ lesser_of (Some other) side = if is_gt (face_key_cmp side other) then other else
 
 -- the least side of a face before and after a side of an arc is taken: it is another only where the arc has the face
 -- there
-abbrev pub IsTaken : PlanData → (ℕ → ℕ) → ℕ → Role → ℕ → Option FaceKey → Option FaceKey → Type 0
-IsTaken p number arc role face before after =
+abbrev pub IsSideTaken : PlanData → (ℕ → ℕ) → ℕ → Role → ℕ → Option FaceKey → Option FaceKey → Type 0
+IsSideTaken p number arc role face before after =
     (Side p arc role face × (after ≡ Some (lesser_of before (side_key p number arc role))))
     ⊎ (¬ (Side p arc role face) × (after ≡ before))

@@ -32,13 +32,13 @@ packed_kind n = if nat_lt n 16777216 then Pno
     else Lnk)))
 
 -- an end without SNS
-abbrev pub end_of : PlainEnd → NumberedEnd
-end_of e = record { kind = packed_kind e.packed; number = e.packed - least_packed (packed_kind e.packed); sns = None }
+abbrev pub unpacked_end : PlainEnd → NumberedEnd
+unpacked_end e = record { kind = packed_kind e.packed; number = e.packed - least_packed (packed_kind e.packed); sns = None }
 
 -- the key of a link of two ends without SNS, and nothing else
 abbrev pub pair_key : ℕ → PlainPair → LinkKey
 pair_key class pair =
-    record { class = class; ends = end_of pair.origin ∷ end_of pair.other ∷ []; attributes = []; extras = [] }
+    record { class = class; ends = unpacked_end pair.origin ∷ unpacked_end pair.other ∷ []; attributes = []; extras = [] }
 
 -- the key that these parts make with a class
 abbrev pub key_in : ℕ → LinkParts → LinkKey

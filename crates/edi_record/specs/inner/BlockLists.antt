@@ -4,8 +4,8 @@ use Rattle.std.specs.List.{AllByRecursion}
 
 module _ {X : Type 0} where
   -- the elements of all blocks in their order
-  unfoldable pub joined : List (List X) → List X → List X
-  joined closed last = flat_map (λ xs. xs) closed ++ last
+  unfoldable pub blocks_joined : List (List X) → List X → List X
+  blocks_joined closed last = flat_map (λ xs. xs) closed ++ last
 
   abbrev pub IsFull : List X → Type 0
   IsFull xs = length xs ≡ 256

@@ -31,16 +31,16 @@ module _ {A E : Type 0} where
       record { head = h.head; parts = parts_between all from h.stops } ∷ records_from all h.stops hs
 
 -- a part ends where it begins or later, and within a list of this length
-pub record IsPart (n from to : ℕ) : Type 0 where
+pub record IsPartWithin (n from to : ℕ) : Type 0 where
   pub rises : from ≤ to
   pub ends : to ≤ n
 
 -- the parts of a record are parts of the lists
 pub record ArePartsTo {A E : Type 0} (all : Parts A E) (from to : Stops) : Type 0 where
-  pub points : IsPart (length all.points) from.points to.points
-  pub ends : IsPart (length all.ends) from.ends to.ends
-  pub attributes : IsPart (length all.attributes) from.attributes to.attributes
-  pub extras : IsPart (length all.extras) from.extras to.extras
+  pub points : IsPartWithin (length all.points) from.points to.points
+  pub ends : IsPartWithin (length all.ends) from.ends to.ends
+  pub attributes : IsPartWithin (length all.attributes) from.attributes to.attributes
+  pub extras : IsPartWithin (length all.extras) from.extras to.extras
 
 -- the lists end here
 pub record AreEnds {A E : Type 0} (all : Parts A E) (from : Stops) : Type 0 where
@@ -50,6 +50,6 @@ pub record AreEnds {A E : Type 0} (all : Parts A E) (from : Stops) : Type 0 wher
   pub extras : from.extras ≡ length all.extras
 
 -- the parts of the records fill the lists from here on
-abbrev pub AreParts : {H A E : Type 0} → Parts A E → Stops → List (Head H) → Type 0
-AreParts all from [] = AreEnds all from
-AreParts all from (h ∷ hs) = ArePartsTo all from h.stops × AreParts all h.stops hs
+abbrev pub FillLists : {H A E : Type 0} → Parts A E → Stops → List (Head H) → Type 0
+FillLists all from [] = AreEnds all from
+FillLists all from (h ∷ hs) = ArePartsTo all from h.stops × FillLists all h.stops hs

@@ -4,7 +4,7 @@ use Rattle.std.specs.List.{AllByRecursion, AllZip, list_all}
 use Rattle.edi_line.specs.ZoneData.{ZoneData}
 use Rattle.edi_line.specs.inner.Refusal.{first_broken}
 use Rattle.edi_record.specs.Shapes.{is_in_shape}
-use Rattle.edi_record.specs.inner.Records.{ReadsAs}
+use Rattle.edi_record.specs.inner.Records.{ReadsAsRecord}
 use Rattle.edi_record.specs.inner.RecordRules.{record_tests}
 use Rattle.edi_record.specs.declared.fault.RecordFault.{RecordFault}
 use Rattle.edi_record.specs.declared.fault.RecordFault.TheVariants.{Memory, Broken}
@@ -15,13 +15,13 @@ abbrev pub IsSound : List ZoneData → Type 0
 IsSound group = first_broken (record_tests group) ≡ None
 
 -- the groups state the records, and none breaks a rule
-pub record IsListOf (groups : List (List ZoneData)) (list : List Record) : Type 0 where
-  pub states : AllZip ReadsAs groups list
+pub record IsListOfGroups (groups : List (List ZoneData)) (list : List Record) : Type 0 where
+  pub states : AllZip ReadsAsRecord groups list
   pub sound : AllByRecursion IsSound groups
   pub shape : list_all is_in_shape list ≡ true
 
 -- one of the groups breaks a rule, and none before it
-pub record IsRefused (groups : List (List ZoneData)) (rule place : ℕ) : Type 0 where
+pub record IsFirstBroken (groups : List (List ZoneData)) (rule place : ℕ) : Type 0 where
   pub before : List (List ZoneData)
   pub group : List ZoneData
   pub after : List (List ZoneData)
@@ -30,7 +30,7 @@ pub record IsRefused (groups : List (List ZoneData)) (rule place : ℕ) : Type 0
   pub broken : first_broken (record_tests group) ≡ Some rule
   pub place_is : place ≡ length before + 1
 
-abbrev pub IsMadeOf : List (List ZoneData) → List Record → Option RecordFault → Type 0
-IsMadeOf groups list None = IsListOf groups list
-IsMadeOf groups list (Some (Memory e)) = ⊤
-IsMadeOf groups list (Some (Broken rule at)) = IsRefused groups rule at
+abbrev pub IsMadeOfGroups : List (List ZoneData) → List Record → Option RecordFault → Type 0
+IsMadeOfGroups groups list None = IsListOfGroups groups list
+IsMadeOfGroups groups list (Some (Memory e)) = ⊤
+IsMadeOfGroups groups list (Some (Broken rule at)) = IsFirstBroken groups rule at

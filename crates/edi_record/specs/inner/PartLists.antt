@@ -15,8 +15,8 @@ held lists = record {
 }
 
 -- they hold nothing
-abbrev pub no_parts : {A E : Type 0} → Parts A E
-no_parts = record { points = []; ends = []; attributes = []; extras = [] }
+abbrev pub empty_parts : {A E : Type 0} → Parts A E
+empty_parts = record { points = []; ends = []; attributes = []; extras = [] }
 
 -- there is room for so many more ends, attributes and extra zones, in each list that isn't empty
 pub record HaveRoom {A E : Type 0} (lists : PartLists A E) (e a x : ℕ) : Type 0 where

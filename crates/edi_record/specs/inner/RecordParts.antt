@@ -15,8 +15,8 @@ pub record AreEmpty (p : RecordParts) : Type 0 where
   pub extras : p.extras.items ≡ []
 
 -- the record with a head and parts
-abbrev pub record_of : AnyRecord RecordHead Attribute End → Record
-record_of e = record {
+abbrev pub record_with_parts : AnyRecord RecordHead Attribute End → Record
+record_with_parts e = record {
   kind = e.head.kind;
   rid = e.head.rid;
   scp = e.head.scp;
@@ -27,9 +27,9 @@ record_of e = record {
 }
 
 -- these records in their order
-abbrev pub records_of : List (AnyRecord RecordHead Attribute End) → List Record
-records_of es = map record_of es
+abbrev pub records_with_parts : List (AnyRecord RecordHead Attribute End) → List Record
+records_with_parts es = map record_with_parts es
 
 -- the record with this head and these parts
 abbrev pub whole : RecordHead → RecordParts → Record
-whole h p = record_of (any_record h p.points.items p.ends.items p.attributes.items p.extras.items)
+whole h p = record_with_parts (any_record h p.points.items p.ends.items p.attributes.items p.extras.items)

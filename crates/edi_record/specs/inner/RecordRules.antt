@@ -4,9 +4,9 @@ use Rattle.std.specs.List.{list_any, before_first}
 use Rattle.edi_line.specs.ZoneData.{ZoneData, has_code, first}
 use Rattle.edi_line.specs.Zones.{groups_of}
 use Rattle.edi_line.specs.Refusal.{Test, test, BreaksTest}
-use Rattle.edi_record.specs.inner.Texts.{pointer, point, count}
+use Rattle.edi_record.specs.inner.Texts.{pointer, point_in, count}
 use Rattle.edi_record.specs.Records.{values, has_points, is_link, opens, closes, points_at}
-use Rattle.edi_record.specs.inner.Records.{Placed, placed, is_extra}
+use Rattle.edi_record.specs.inner.Records.{Placed, zones_placed, is_extra}
 use Rattle.edi_record.specs.declared.record.Kind.{Kind}
 use Rattle.edi_record.specs.declared.record.Kind.TheVariants.{Pno, Par, Pfe, Fea, Lnk}
 use Rattle.edi_record.specs.RecordRules.{just_one, has_no_identifier}
@@ -36,9 +36,9 @@ abbrev pub is_node : Kind → Bool
 is_node Pno = true
 is_node _ = false
 
-abbrev pub is_arc : Kind → Bool
-is_arc Par = true
-is_arc _ = false
+abbrev pub is_arc_kind : Kind → Bool
+is_arc_kind Par = true
+is_arc_kind _ = false
 
 -- 201: the type isn't one of the five
 abbrev pub has_no_kind : List ZoneData → Bool
@@ -59,17 +59,17 @@ count_until ends code (z ∷ zs) =
     if ends z then 0 else (if has_code code z then 1 + count_until ends code zs else count_until ends code zs)
 
 -- behind a zone that opens a stretch, the code comes twice or more in it
-abbrev pub repeats : (ZoneData → Bool) → (ZoneData → Bool) → List ℕ → List ZoneData → Bool
-repeats opens_it ends_it code [] = false
-repeats opens_it ends_it code (z ∷ zs) =
-    (opens_it z && nat_le 2 (count_until ends_it code zs)) || repeats opens_it ends_it code zs
+abbrev pub repeats_code : (ZoneData → Bool) → (ZoneData → Bool) → List ℕ → List ZoneData → Bool
+repeats_code opens_it ends_it code [] = false
+repeats_code opens_it ends_it code (z ∷ zs) =
+    (opens_it z && nat_le 2 (count_until ends_it code zs)) || repeats_code opens_it ends_it code zs
 
 -- 204: an ATP is no pointer; an ATV with no open attribute; a second TEX in one open attribute
 abbrev pub has_bad_attribute : List ZoneData → Bool
 has_bad_attribute group =
     some_no_pointer (values (codes "ATP") group)
-    || (list_any (λ p. closes p.zone && not p.open_before) (placed false group)
-    || repeats opens (λ z. opens z || closes z) (codes "TEX") group)
+    || (list_any (λ p. closes p.zone && not p.open_before) (zones_placed false group)
+    || repeats_code opens (λ z. opens z || closes z) (codes "TEX") group)
 
 -- none, or one text that counts so many
 abbrev pub counts_right : List (List ℕ) → ℕ → Bool
@@ -89,15 +89,15 @@ counts_wrong counting counted group = not (counts_right (values counting group) 
 abbrev pub has_wrong_count : List ZoneData → Bool
 has_wrong_count group =
     counts_wrong (codes "ATC") (codes "ATP") group
-    || ((in_kind is_arc group && counts_wrong (codes "PTC") (codes "COR") group)
+    || ((in_kind is_arc_kind group && counts_wrong (codes "PTC") (codes "COR") group)
     || (in_kind is_link group && counts_wrong (codes "FTC") (codes "FTP") group))
 
 -- 206: a COR of a node or an arc is no place; a node without exactly one COR; an arc with fewer than two
 abbrev pub has_bad_point : List ZoneData → Bool
 has_bad_point group =
-    (in_kind has_points group && list_any (λ text. is_none (point text)) (values (codes "COR") group))
+    (in_kind has_points group && list_any (λ text. is_none (point_in text)) (values (codes "COR") group))
     || ((in_kind is_node group && not (nat_eq (length (values (codes "COR") group)) 1))
-    || (in_kind is_arc group && nat_lt (length (values (codes "COR") group)) 2))
+    || (in_kind is_arc_kind group && nat_lt (length (values (codes "COR") group)) 2))
 
 -- 207: of a link, an FTP is no pointer; fewer than two ends; an SNS before any FTP, or twice for one
 abbrev pub has_bad_end : List ZoneData → Bool
@@ -106,14 +106,14 @@ has_bad_end group =
     && (some_no_pointer (values (codes "FTP") group)
     || (nat_lt (length (values (codes "FTP") group)) 2
     || (list_any (has_code (codes "SNS")) (before_first points_at group)
-    || repeats points_at points_at (codes "SNS") group)))
+    || repeats_code points_at points_at (codes "SNS") group)))
 
 abbrev pub is_unknown_pointer : Kind → Placed → Bool
 is_unknown_pointer kind p = is_extra kind p && ((p.zone.format == 80) && nat_lt 0 (length p.zone.value))
 
 -- 208: an extra with format `P` and a value that isn't empty
 abbrev pub has_unknown_pointer : List ZoneData → Bool
-has_unknown_pointer group = in_kind (λ kind. list_any (is_unknown_pointer kind) (placed false group)) group
+has_unknown_pointer group = in_kind (λ kind. list_any (is_unknown_pointer kind) (zones_placed false group)) group
 
 abbrev pub record_tests : List ZoneData → List Test
 record_tests group =

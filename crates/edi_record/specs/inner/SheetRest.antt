@@ -8,11 +8,11 @@ use Rattle.edi_record.specs.declared.record.Attribute.{Attribute}
 use Rattle.edi_record.specs.declared.record.End.{End}
 use Rattle.edi_record.specs.declared.record_parts.RecordHead.{RecordHead}
 use Rattle.edi_record.specs.declared.sheet_rest.BlocksAhead.{BlocksAhead}
-use Rattle.edi_record.specs.inner.BlockLists.{joined, IsFull}
+use Rattle.edi_record.specs.inner.BlockLists.{blocks_joined, IsFull}
 
 -- the records of the blocks ahead, in their order
 abbrev pub all_ahead : BlocksAhead → List (AnyRecord RecordHead Attribute End)
-all_ahead ahead = joined (into_iter_items ahead.closed) ahead.last
+all_ahead ahead = blocks_joined (into_iter_items ahead.closed) ahead.last
 
 -- all blocks ahead but the last are full
 abbrev pub AreAhead : BlocksAhead → Type 0

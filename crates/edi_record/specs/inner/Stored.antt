@@ -2,10 +2,10 @@
 use Rattle.std.specs.Prelude.{◌≡◌, ℕ, ◌+◌, ◌≤◌, Bool, true, false, not, ◌&&◌, ◌||◌, nat_le, is_some, is_none, List, [], ◌∷◌, ◌++◌, map, filter, length, if◌then◌else◌, Option, Some, None, option_map, codes, bytes_eq}
 use Rattle.std.specs.List.{list_any, before_first}
 use Rattle.edi_line.specs.ZoneData.{ZoneData, has_code}
-use Rattle.edi_record.specs.inner.Texts.{point}
+use Rattle.edi_record.specs.inner.Texts.{point_in}
 use Rattle.edi_record.specs.Records.{values, has_points, is_link, opens, closes, points_at}
-use Rattle.edi_record.specs.inner.Records.{set_after, value_after, attributes, sns_after, ends, Placed, placed, is_open_after, is_extra, extra, extras}
-use Rattle.edi_record.specs.inner.RecordRules.{is_arc, count_until, repeats, has_bad_attribute, is_unknown_pointer}
+use Rattle.edi_record.specs.inner.Records.{set_after, value_after, attributes, sns_after, ends, Placed, zones_placed, is_open_after, is_extra, extra, extras}
+use Rattle.edi_record.specs.inner.RecordRules.{is_arc_kind, count_until, repeats_code, has_bad_attribute, is_unknown_pointer}
 use Rattle.edi_record.specs.declared.record.Kind.{Kind}
 use Rattle.edi_record.specs.declared.record.Kind.TheVariants.{Pno, Par, Pfe, Fea, Lnk}
 use Rattle.edi_record.specs.declared.record.Attribute.{Attribute}
@@ -153,17 +153,17 @@ closed_with value (Some opened) = attribute_of opened (set_come opened) value �
 
 -- among the zones that are left is a second character set, of the open attribute or of a later one
 abbrev pub repeats_with : Option OpenAttribute → List ZoneData → Bool
-repeats_with None left = repeats opens (λ z. opens z || closes z) (codes "TEX") left
+repeats_with None left = repeats_code opens (λ z. opens z || closes z) (codes "TEX") left
 repeats_with (Some opened) left =
     nat_le (if is_some opened.set then 1 else 2) (count_until (λ z. opens z || closes z) (codes "TEX") left)
-    || repeats opens (λ z. opens z || closes z) (codes "TEX") left
+    || repeats_code opens (λ z. opens z || closes z) (codes "TEX") left
 
 -- of a group's attributes so much is stored, where these zones are left
 pub record StoresAttributes (a : KeptAttributes) (left group : List ZoneData) : Type 0 where
   pub broken : a.is_broken ≡ true → has_bad_attribute group ≡ true
   pub made : a.is_broken ≡ false → attributes group ≡ map Some a.done ++ attributes_with a.opened left
   pub stray : a.is_broken ≡ false
-      → list_any is_stray (placed false group) ≡ list_any is_stray (placed (is_some a.opened) left)
+      → list_any is_stray (zones_placed false group) ≡ list_any is_stray (zones_placed (is_some a.opened) left)
   pub repeated : a.is_broken ≡ false → repeats_with None group ≡ repeats_with a.opened left
 
 -- where the rule isn't broken then, it wasn't before, and an attribute is open then or none is
@@ -172,9 +172,9 @@ LeavesOpen is_open old new = new.is_broken ≡ false → (old.is_broken ≡ fals
 
 -- of a group's points so much is stored, where these zones are left
 pub record StoresPoints (p : KeptPoints) (left group : List ZoneData) : Type 0 where
-  pub broken : p.is_broken ≡ true → list_any is_none (map point (values (codes "COR") group)) ≡ true
+  pub broken : p.is_broken ≡ true → list_any is_none (map point_in (values (codes "COR") group)) ≡ true
   pub made : p.is_broken ≡ false
-      → map point (values (codes "COR") group) ≡ map Some p.list ++ map point (values (codes "COR") left)
+      → map point_in (values (codes "COR") group) ≡ map Some p.list ++ map point_in (values (codes "COR") left)
 
 -- an SNS comes before any end
 abbrev pub has_stray : List ZoneData → Bool
@@ -209,10 +209,10 @@ ended_with (Some opened) = end_with opened (sns_come opened) ∷ []
 
 -- among the zones that are left is an SNS before any end, or a second one, of the open end or of a later one
 abbrev pub bad_sns_with : Option OpenEnd → List ZoneData → Bool
-bad_sns_with None left = has_stray left || repeats points_at points_at (codes "SNS") left
+bad_sns_with None left = has_stray left || repeats_code points_at points_at (codes "SNS") left
 bad_sns_with (Some opened) left =
     nat_le (if is_some opened.sense then 1 else 2) (count_until points_at (codes "SNS") left)
-    || repeats points_at points_at (codes "SNS") left
+    || repeats_code points_at points_at (codes "SNS") left
 
 -- of a group's ends so much is stored, where these zones are left
 pub record StoresEnds (e : KeptEnds) (left group : List ZoneData) : Type 0 where
@@ -222,14 +222,14 @@ pub record StoresEnds (e : KeptEnds) (left group : List ZoneData) : Type 0 where
 
 -- the extras among zones before which an attribute is open or none is
 abbrev pub extras_after : Kind → Bool → List ZoneData → List Extra
-extras_after kind is_open zs = map (λ (p : Placed). extra p.zone) (filter (is_extra kind) (placed is_open zs))
+extras_after kind is_open zs = map (λ (p : Placed). extra p.zone) (filter (is_extra kind) (zones_placed is_open zs))
 
 -- of a group's extras so much is stored, where these zones are left, and an attribute is open or none is
 pub record StoresExtras (kind : Kind) (is_open : Bool) (e : KeptExtras) (left group : List ZoneData) : Type 0 where
-  pub broken : e.is_broken ≡ true → list_any (is_unknown_pointer kind) (placed false group) ≡ true
+  pub broken : e.is_broken ≡ true → list_any (is_unknown_pointer kind) (zones_placed false group) ≡ true
   pub made : e.is_broken ≡ false → extras kind group ≡ e.list ++ extras_after kind is_open left
-  pub unknown : e.is_broken ≡ false → list_any (is_unknown_pointer kind) (placed false group)
-      ≡ list_any (is_unknown_pointer kind) (placed is_open left)
+  pub unknown : e.is_broken ≡ false → list_any (is_unknown_pointer kind) (zones_placed false group)
+      ≡ list_any (is_unknown_pointer kind) (zones_placed is_open left)
 
 -- an extra goes from the zones that are left to those that have come
 abbrev pub TakesExtra : ZoneData → KeptExtras → KeptExtras → Type 0
@@ -243,7 +243,7 @@ pub record StoresRecord (d : KeptRecord) (left group : List ZoneData) : Type 0 w
   pub identifier : AreTexts d.identifier (values (codes "RID") left) (values (codes "RID") group)
   pub class : AreTexts d.class (values (codes "SCP") left) (values (codes "SCP") group)
   pub attribute_count : AreTexts d.attribute_count (values (codes "ATC") left) (values (codes "ATC") group)
-  pub point_count : is_arc d.kind ≡ true
+  pub point_count : is_arc_kind d.kind ≡ true
       → AreTexts d.body_count (values (codes "PTC") left) (values (codes "PTC") group)
   pub end_count : is_link d.kind ≡ true → AreTexts d.body_count (values (codes "FTC") left) (values (codes "FTC") group)
   pub counted_points : has_points d.kind ≡ true

@@ -50,8 +50,8 @@ last_part (part ∷ [] ∷ []) = Some part
 last_part _ = None
 
 -- two or three numbers parted by semicolons, with or without one at the end
-unfoldable pub point : List ℕ → Option Point
-point text = point_of (parts text)
+unfoldable pub point_in : List ℕ → Option Point
+point_in text = point_of (parts text)
 
 -- one digit or more
 unfoldable pub count : List ℕ → Option ℕ
@@ -62,8 +62,8 @@ abbrev pub semicolon_marks : List ℕ → ℕ
 semicolon_marks text = mask_l (map is_semicolon text)
 
 -- these are the semicolons of a text, which has fewer bytes than a number has bits
-abbrev pub AreMarks : List ℕ → ℕ → Type 0
-AreMarks text marks = (length text < 64) × (marks ≡ semicolon_marks text)
+abbrev pub AreSemicolons : List ℕ → ℕ → Type 0
+AreSemicolons text marks = (length text < 64) × (marks ≡ semicolon_marks text)
 
 -- the text is cut at its first semicolon, or has none
 abbrev pub AreCut : List ℕ → Option (List ℕ × List ℕ) → Type 0

@@ -18,16 +18,16 @@ abbrev pub name_parts : Name → List (List ℕ)
 name_parts name = name.rty ∷ name.rid ∷ []
 
 -- the value of the first zone with a code, or nothing
-abbrev pub text_in : List ℕ → List ZoneData → List ℕ
-text_in code group = unwrap_or (first (values code group)) []
+abbrev pub text_of_code : List ℕ → List ZoneData → List ℕ
+text_of_code code group = unwrap_or (first (values code group)) []
 
 -- the name of a record; what is missing is empty
-abbrev pub name_in : List ZoneData → Name
-name_in group = record { rty = text_in (codes "RTY") group; rid = text_in (codes "RID") group }
+abbrev pub draft_name : List ZoneData → Name
+draft_name group = record { rty = text_of_code (codes "RTY") group; rid = text_of_code (codes "RID") group }
 
 -- the name that is borrowed from a title
-abbrev pub named : Title → Name
-named t = record { rty = t.rty.now; rid = t.rid.now }
+abbrev pub title_name : Title → Name
+title_name t = record { rty = t.rty.now; rid = t.rid.now }
 
 -- what is read of a record
 pub record Said : Type 0 where
@@ -39,7 +39,7 @@ pub record Said : Type 0 where
 
 abbrev pub said_in : List ZoneData → Said
 said_in group = record {
-  name = name_in group;
+  name = draft_name group;
   lacks_identifier = has_no_identifier group;
   word = first (values (codes "DIP") group);
   kind = first (values (codes "KND") group);
@@ -47,9 +47,9 @@ said_in group = record {
 }
 
 -- what is borrowed from a definition
-abbrev pub said : Definition → Said
-said d = record {
-  name = named d.title;
+abbrev pub definition_said : Definition → Said
+definition_said d = record {
+  name = title_name d.title;
   lacks_identifier = d.lacks_identifier;
   word = option_map (λ t. t.now) d.word;
   kind = option_map (λ t. t.now) d.kind;
@@ -79,4 +79,4 @@ class_in kinds words s = option_map (λ word_type. (s.name, class_by kinds s wor
 
 -- the name and the class that are borrowed from a draft
 abbrev pub drafted : ClassDraft → Name × Class
-drafted d = (named d.title, d.class)
+drafted d = (title_name d.title, d.class)

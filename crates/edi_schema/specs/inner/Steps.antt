@@ -54,8 +54,8 @@ pub record IsFirstUnidentified (records : List Said) (at : ℕ) : Type 0 where
 abbrev pub AreIdentified : List Said → Type 0
 AreIdentified records = position (λ s. s.lacks_identifier) records ≡ None
 
-abbrev pub names_of : List Said → List Name
-names_of records = map (λ s. s.name) records
+abbrev pub names_said : List Said → List Name
+names_said records = map (λ s. s.name) records
 
 -- the first name that an earlier one has; places count from 1
 pub record IsFirstRepeat (names : List Name) (at : ℕ) : Type 0 where
@@ -82,8 +82,8 @@ module _ (classes words : List Said) (kinds : KindCodes) where
   pub record AreNamed : Type 0 where
     pub classes_identified : AreIdentified classes
     pub words_identified : AreIdentified words
-    pub classes_distinct : IsDistinct is_name (names_of classes)
-    pub words_distinct : IsDistinct is_name (names_of words)
+    pub classes_distinct : IsDistinct is_name (names_said classes)
+    pub words_distinct : IsDistinct is_name (names_said words)
 
   -- the first record at which the steps stop
   pub data StopsAt (file : Source) (rule at : ℕ) : Type 0 where
@@ -91,10 +91,10 @@ module _ (classes words : List Said) (kinds : KindCodes) where
     word_unidentified : file ≡ Dic → rule ≡ 601 → AreIdentified classes → IsFirstUnidentified words at
         → StopsAt file rule at
     class_repeats : file ≡ Scd → rule ≡ 602 → AreIdentified classes → AreIdentified words
-        → IsFirstRepeat (names_of classes) at → StopsAt file rule at
+        → IsFirstRepeat (names_said classes) at → StopsAt file rule at
     word_repeats : file ≡ Dic → rule ≡ 602 → AreIdentified classes → AreIdentified words
-        → IsDistinct is_name (names_of classes)
-        → IsFirstRepeat (names_of words) at → StopsAt file rule at
+        → IsDistinct is_name (names_said classes)
+        → IsFirstRepeat (names_said words) at → StopsAt file rule at
     lacks_word : file ≡ Scd → rule ≡ 603 → AreNamed → IsFirstLacking (class_in kinds words) classes at
         → StopsAt file rule at
 

@@ -12,7 +12,7 @@ RepeatsAnEarlierArc p b =
     × ((points ≡ earlier) ⊎ (points ≡ reverse earlier))
 
 -- the least place of such an arc; or there is none
-abbrev pub IsFirstRepeatIfAny : PlanData → Option ℕ → Type 0
-IsFirstRepeatIfAny p found =
+abbrev pub IsFirstRepeatedArcIfAny : PlanData → Option ℕ → Type 0
+IsFirstRepeatedArcIfAny p found =
     MatchOption found ((n : ℕ) → ¬ (RepeatsAnEarlierArc p n))
     (λ n. RepeatsAnEarlierArc p n × ((k : ℕ) → RepeatsAnEarlierArc p k → n ≤ k))

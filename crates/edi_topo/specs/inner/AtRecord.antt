@@ -29,14 +29,14 @@ IsUpTo found place = (k : ℕ) → found ≡ Some k → place ≤ k
 
 -- what was found: the numbers of the nodes and of the arcs, or the first that repeats an earlier one, and which faces
 -- are on a side
-pub record AreFindings (p : PlanData) (found : RecordFindings) : Type 0 where
+pub record AreRecordFindings (p : PlanData) (found : RecordFindings) : Type 0 where
   pub nodes : IfOk found.nodes (IsNodeRanking p)
-  pub node_repeat : Nodes.IsFirstRepeatIfAny p (result_err found.nodes)
+  pub node_repeat : Nodes.IsFirstRepeatedNodeIfAny p (result_err found.nodes)
   pub arcs : IfOk found.arcs (IsForwardRanking p)
-  pub arc_repeat : Arcs.IsFirstRepeatIfAny p (result_err found.arcs)
+  pub arc_repeat : Arcs.IsFirstRepeatedArcIfAny p (result_err found.arcs)
   pub faced : AreFaced p found.faced.items
 
 -- the repeats aren't before this place
-pub record AreAhead (found : RecordFindings) (place : ℕ) : Type 0 where
+pub record AreNotBefore (found : RecordFindings) (place : ℕ) : Type 0 where
   pub node : IsUpTo (result_err found.nodes) place
   pub arc : IsUpTo (result_err found.arcs) place

@@ -34,14 +34,14 @@ pub record FollowsItsKey {K : Type 0} (cmp : K → K → Ordering) (pairs : List
   pub is : (d : K × ℕ) → (slice_index_or pairs (place + 1) d).1 ≡ member
 
 -- an earlier member has the key
-abbrev pub HasEarlier : {K : Type 0} → (K → K → Ordering) → (ℕ → K) → ℕ → Type 0
-HasEarlier cmp key member = (i : ℕ) × (i < member) × (cmp (key i) (key member) ≡ Equal)
+abbrev pub HasEarlierEqual : {K : Type 0} → (K → K → Ordering) → (ℕ → K) → ℕ → Type 0
+HasEarlierEqual cmp key member = (i : ℕ) × (i < member) × (cmp (key i) (key member) ≡ Equal)
 
 -- the least member with the key of an earlier one
 pub record IsFirstTie {K : Type 0} (cmp : K → K → Ordering) (key : ℕ → K) (n member : ℕ) : Type 0 where
   pub within : member < n
-  pub tied : HasEarlier cmp key member
-  pub first : (i : ℕ) → i < member → HasEarlier cmp key i → ⊥
+  pub tied : HasEarlierEqual cmp key member
+  pub first : (i : ℕ) → i < member → HasEarlierEqual cmp key i → ⊥
 
 -- no two of the first n members have equal keys
 abbrev pub AllApart : {K : Type 0} → (K → K → Ordering) → (ℕ → K) → ℕ → Type 0

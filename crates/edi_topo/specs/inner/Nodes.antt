@@ -8,7 +8,7 @@ abbrev pub RepeatsAnEarlier : PlanData → ℕ → Type 0
 RepeatsAnEarlier p n = (m : ℕ) × (m < n) × AreEqualNodes p m n
 
 -- the least place of a node equal to an earlier one; or there is none
-abbrev pub IsFirstRepeatIfAny : PlanData → Option ℕ → Type 0
-IsFirstRepeatIfAny p found =
+abbrev pub IsFirstRepeatedNodeIfAny : PlanData → Option ℕ → Type 0
+IsFirstRepeatedNodeIfAny p found =
     MatchOption found ((n : ℕ) → ¬ (RepeatsAnEarlier p n))
     (λ n. RepeatsAnEarlier p n × ((k : ℕ) → RepeatsAnEarlier p k → n ≤ k))

@@ -7,7 +7,7 @@ use Rattle.edi_write.specs.Layout.{class_name_of}
 use Rattle.edi_write.specs.declared.class_line.ClassLine.{ClassLine}
 
 -- it is that of its class, if it has one
-abbrev pub IsLineOf : Classes → ClassLine → Type 0
-IsLineOf s l =
+abbrev pub IsLineOfItsClass : Classes → ClassLine → Type 0
+IsLineOfItsClass s l =
     (class : ℕ) → l.class ≡ Some class
     → l.page.file.items ≡ printed_zone (zone_headed (codes "SCPCP") (class_text (class_name_of s class)))

@@ -1,6 +1,6 @@
 use Rattle.std.proofs.Common.{◌≡◌, ◌∙◌, ◌+◌, ◌-◌, ◌<◌, ◌≤◌, ◌⊎◌, inl, inr, ℕ, suc, List, length, None, Some, sym, ap, arith, rules, slice_get}
 use Rattle.std.proofs.lemmas.Bool.{cases_lt}
-use Rattle.edi_line.specs.inner.Lines.{contents_of}
+use Rattle.edi_line.specs.inner.Lines.{line_contents}
 use Rattle.edi_explain.specs.Barring.{IsBarredBy}
 use Rattle.edi_explain.proofs.Barred.{barred, empty_contents, next_content, no_bars, no_such_line, text_bars}
 use Rattle.edi_explain.proofs.Leasts.{least_here, none_here}
@@ -23,13 +23,13 @@ returns-then-bars c =
       | else-rule-ne107-via-else-rule-ne107 w ↦ omega (arith, w.if-rule-ne107.false)
     ] in
     let d = c.in_ok-refused.refused.now in
-    let here : slice_get (contents_of bytes) (at - 1) ≡ Some d = sym c.in_ok-refused.ensures in
+    let here : slice_get (line_contents bytes) (at - 1) ≡ Some d = sym c.in_ok-refused.ensures in
     let one = c.loop-refused.invariant.from_one in
     let less : c.loop-refused.number < at = omega arith in
     let some : 1 ≤ at = omega arith in
     let next = next_content c.loop-refused.rest.now c.first_line.result.0.now c.first_line.result.1.now c.first_line.ensures.lines in
-    let there : slice_get (contents_of bytes) (c.loop-refused.number - 1) ≡ Some c.content.result.now =
-    ap (slice_get (contents_of bytes)) (omega arith) ∙ (c.loop-refused.invariant.left 0 ∙ (ap (λ cs. slice_get cs 0) next ∙ ap Some (sym c.content.ensures))) in
+    let there : slice_get (line_contents bytes) (c.loop-refused.number - 1) ≡ Some c.content.result.now =
+    ap (slice_get (line_contents bytes)) (omega arith) ∙ (c.loop-refused.invariant.left 0 ∙ (ap (λ cs. slice_get cs 0) next ∙ ap Some (sym c.content.ensures))) in
     least_here (IsBarredBy bytes rule at) c.loop-refused.number c.loop-refused.invariant.none
     (barred bytes rule at c.requires big d some here c.loop-refused.number c.content.result.now one less there (sym c.bars.ensures ∙ c.if-bars.true))
 
@@ -43,16 +43,16 @@ loop-refused-preserved c =
       | else-rule-ne107-via-else-rule-ne107 w ↦ omega (arith, w.if-rule-ne107.false)
     ] in
     let d = c.in_ok-refused.refused.now in
-    let here : slice_get (contents_of bytes) (at - 1) ≡ Some d = sym c.in_ok-refused.ensures in
+    let here : slice_get (line_contents bytes) (at - 1) ≡ Some d = sym c.in_ok-refused.ensures in
     let one = c.loop-refused.invariant.from_one in
     let less : c.loop-refused.number < at = omega arith in
     let some : 1 ≤ at = omega arith in
     let next = next_content c.loop-refused.rest.now c.first_line.result.0.now c.first_line.result.1.now c.first_line.ensures.lines in
-    let there : slice_get (contents_of bytes) (c.loop-refused.number - 1) ≡ Some c.content.result.now =
-    ap (slice_get (contents_of bytes)) (omega arith) ∙ (c.loop-refused.invariant.left 0 ∙ (ap (λ cs. slice_get cs 0) next ∙ ap Some (sym c.content.ensures))) in
+    let there : slice_get (line_contents bytes) (c.loop-refused.number - 1) ≡ Some c.content.result.now =
+    ap (slice_get (line_contents bytes)) (omega arith) ∙ (c.loop-refused.invariant.left 0 ∙ (ap (λ cs. slice_get cs 0) next ∙ ap Some (sym c.content.ensures))) in
     record {
       from_one = omega arith;
-      left = λ j. ap (slice_get (contents_of bytes)) (omega (arith, one)) ∙ (c.loop-refused.invariant.left (suc j) ∙ ap (λ cs. slice_get cs (suc j)) next);
+      left = λ j. ap (slice_get (line_contents bytes)) (omega (arith, one)) ∙ (c.loop-refused.invariant.left (suc j) ∙ ap (λ cs. slice_get cs (suc j)) next);
       none = none_here (IsBarredBy bytes rule at) c.loop-refused.number c.loop-refused.invariant.none
           (λ h. let t = text_bars bytes rule at c.requires big d some here c.loop-refused.number c.content.result.now there h in let f = sym c.bars.ensures ∙ c.if-bars.false in cc);
     }
@@ -73,5 +73,5 @@ past_end cs rest number at k d one left none here less = go (cases_lt k number)
 pub returns-after-loop-refused : goal.returns-after-loop-refused
 returns-after-loop-refused c = λ k h.
     let none : length c.loop-refused.rest.now ≡ 0 = search rules in
-    c.loop-refused.invariant.none k (past_end (contents_of c.args.bytes.now) (contents_of c.loop-refused.rest.now) c.loop-refused.number c.args.at k c.in_ok-refused.refused.now
+    c.loop-refused.invariant.none k (past_end (line_contents c.args.bytes.now) (line_contents c.loop-refused.rest.now) c.loop-refused.number c.args.at k c.in_ok-refused.refused.now
     c.loop-refused.invariant.from_one c.loop-refused.invariant.left (empty_contents c.loop-refused.rest.now none) (sym c.in_ok-refused.ensures) h.before) h

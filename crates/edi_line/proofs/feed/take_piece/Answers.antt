@@ -1,7 +1,7 @@
 use Rattle.std.proofs.Common.{◌≡◌, [], ◌∷◌, ◌++◌, sym, ap, ◌∙◌, subst}
 use Rattle.std.proofs.lemmas.List.{append_assoc}
 use Rattle.std.proofs.lemmas.Result.{err_from_is_err_and}
-use Rattle.edi_line.specs.inner.Held.{Refuses}
+use Rattle.edi_line.specs.inner.Held.{BreaksAtNext}
 use Rattle.edi_line.specs.inner.Feeding.{TakesFront, RefusesIn}
 use Rattle.edi_line.specs.Lines.{content_of}
 use Rattle.edi_line.specs.inner.Spelling.{reading_of}
@@ -18,7 +18,7 @@ returns-in_err-take_first-clause-broken c =
     let line = c.in-Some.line.now in
     let after = c.in-Some.after.now in
     let whole : (pending ++ line) ++ after ≡ pending ++ c.args.piece.now = append_assoc pending line after ∙ ap (λ b. pending ++ b) (sym c.in-Some.ensures.joined) in
-    rw (p.1, p.2) (if_broken (Refuses old (reading_of (content_of (pending ++ line)))) (RefusesIn old (pending ++ c.args.piece.now))
+    rw (p.1, p.2) (if_broken (BreaksAtNext old (reading_of (content_of (pending ++ line)))) (RefusesIn old (pending ++ c.args.piece.now))
     (λ rule place h. subst (λ b. RefusesIn old b rule place) whole (refuses_first old (pending ++ line) after rule place (pending_ended pending line c.requires.no_feed c.in-Some.ensures.ended) h))
     c.in_err-take_first.field-0.0 c.in_err-take_first.ensures.broken)
 

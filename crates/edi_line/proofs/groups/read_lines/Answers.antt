@@ -9,7 +9,7 @@ use Rattle.edi_line.specs.Refusal.{IsLeastBroken}
 use Rattle.edi_line.specs.Spelling.{Reading}
 use Rattle.edi_line.specs.Zones.{ends_group}
 use Rattle.edi_line.specs.inner.HandingOn.{IsAtLines, WentOn}
-use Rattle.edi_line.specs.inner.Held.{Refuses}
+use Rattle.edi_line.specs.inner.Held.{BreaksAtNext}
 use Rattle.edi_line.specs.inner.Spelling.{reading_of}
 use Rattle.edi_line.specs.inner.Zones.{readings_of}
 use Rattle.edi_line.proofs.Feeds.{if_broken}
@@ -25,7 +25,7 @@ returns-in_err-take_line-clause-broken g c =
     let old = c.loop-rest.reader in
     let step : readings_of c.loop-rest.rest.now ≡ line ∷ after =
     readings_step c.loop-rest.rest.now c.first_line.result.0.now c.first_line.result.1.now c.first_line.ensures.lines ∙ ap (λ x. reading_of x ∷ after) (sym c.content.ensures) in
-    rw (p.1, p.2) (if_broken (Refuses old line)
+    rw (p.1, p.2) (if_broken (BreaksAtNext old line)
     (λ rule place. (lines left : List Reading) (given : List ZoneData) → IsAtLines lines (readings_of c.args.bytes.now ++ left) given c.args.reader c.args.charset.now → IsLeastBroken (BreaksIn lines) rule place)
     (λ rule place refuses lines left given at.
     (let went = c.loop-rest.invariant.went lines left given at in

@@ -5,7 +5,7 @@ use Rattle.edi_record.specs.Records.{is_link}
 use Rattle.edi_record.specs.declared.record.Attribute.{Attribute}
 use Rattle.edi_record.specs.declared.record.End.{End}
 use Rattle.edi_schema.specs.declared.role.Role.{Role}
-use Rattle.edi_plan.specs.inner.Resolving.{AreGiven, IsUnresolved, LacksClass, Resolves, lacks_class, leaves, reference_tests, role_of_link}
+use Rattle.edi_plan.specs.inner.Resolving.{AreGiven, IsUnresolved, HasNoAttributeClass, Resolves, lacks_class, leaves, reference_tests, role_of_link}
 use Rattle.edi_plan.specs.inner.SideTable.{IsNoted, link_join, link_tests}
 use Rattle.edi_plan.proofs.Resolved.{role_there, zip_states}
 use Rattle.edi_plan.proofs.RuleLemmas.{any_true, lacks_true}
@@ -18,10 +18,10 @@ returns-in_err-attributes-clause-least c =
     let class = sym c.requires.class ∙ c.in-Some.is in
     let tests = reference_tests c.args.schema.now c.args.subset.now c.args.targets.now c.args.sides.now c.args.record.now in
     err_kept _ c.in_err-attributes.field-0.0 (IsUnresolved (λ rule. first_broken tests ≡ Some rule)) c.from_residual.ensures.1
-    (unresolved_map (λ rule. (rule ≡ 303) × Any (LacksClass c.args.schema.now) c.args.record.now.attributes) (λ rule. first_broken tests ≡ Some rule)
-    (λ rule h. stop_303 c.args.schema.now c.args.subset.now c.args.targets.now c.args.sides.now c.args.record.now (ap is_none class) (any_true (LacksClass c.args.schema.now) (lacks_class c.args.schema.now) (lacks_true c.args.schema.now) c.args.record.now.attributes h.1) ∙ ap Some (sym h.0))
+    (unresolved_map (λ rule. (rule ≡ 303) × Any (HasNoAttributeClass c.args.schema.now) c.args.record.now.attributes) (λ rule. first_broken tests ≡ Some rule)
+    (λ rule h. stop_303 c.args.schema.now c.args.subset.now c.args.targets.now c.args.sides.now c.args.record.now (ap is_none class) (any_true (HasNoAttributeClass c.args.schema.now) (lacks_class c.args.schema.now) (lacks_true c.args.schema.now) c.args.record.now.attributes h.1) ∙ ap Some (sym h.0))
     c.in_err-attributes.field-0.0
-    (subst (λ (xs : List Attribute). IsUnresolved (λ rule. (rule ≡ 303) × Any (LacksClass c.args.schema.now) xs) c.in_err-attributes.field-0.0) c.attributes.ensures c.in_err-attributes.ensures.err))
+    (subst (λ (xs : List Attribute). IsUnresolved (λ rule. (rule ≡ 303) × Any (HasNoAttributeClass c.args.schema.now) xs) c.in_err-attributes.field-0.0) c.attributes.ensures c.in_err-attributes.ensures.err))
 
 pub returns-then-leaves_subset-clause-least : goal.returns-then-leaves_subset-clause-least
 returns-then-leaves_subset-clause-least c =

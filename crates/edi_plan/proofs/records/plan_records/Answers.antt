@@ -20,7 +20,7 @@ use Rattle.edi_plan.specs.inner.EarlierLinks.{IsOfSideAt}
 use Rattle.edi_plan.proofs.EarlierLinks.{link_found}
 use Rattle.edi_plan.specs.inner.Resolving.{reference_tests, IsUnresolved}
 use Rattle.edi_plan.specs.inner.Targets.{IsTargetIfAny, AreTargets}
-use Rattle.edi_plan.specs.inner.RecordLists.{records_of}
+use Rattle.edi_plan.specs.inner.RecordLists.{plan_records_of}
 use Rattle.edi_plan.specs.declared.references.Subset.{Subset}
 use Rattle.edi_plan.proofs.DoneLemmas.{least_here, refused_at, repeats_301, step_done}
 use Rattle.edi_plan.proofs.RecordLemmas.{own_targets, later_targets, enough_targets, entries_there, record_stated, cut_at, got_there, left_there, none_left, one_left_less, fresh_at, repeats_here, ahead_more, written}
@@ -86,8 +86,8 @@ returns-in-Err-Broken-clause-earlier c =
     let fault : c.broken-in-Err-Broken.result.fault ≡ Broken rule (place + 1) = told.fault ∙ rw c.in-Err-Broken.field-0-is refl in
     let least = subst (IsRecordRefusal (BreaksReferenceRule s list)) fault (returns-in-Err-Broken-clause-least c) in
     let found = λ (e : rule ≡ 307).
-    link_found s list place r here c.split_at.result.0.now own (records_of c.loop-record.list) i.zipped rule e least.is c.earlier_link-earlier.result
-    (subst (λ (role : Role). IsLeastIfAny (IsOfSideAt (records_of c.loop-record.list) role c.split_at.result.0.now) c.earlier_link-earlier.result) c.link_role.ensures
+    link_found s list place r here c.split_at.result.0.now own (plan_records_of c.loop-record.list) i.zipped rule e least.is c.earlier_link-earlier.result
+    (subst (λ (role : Role). IsLeastIfAny (IsOfSideAt (plan_records_of c.loop-record.list) role c.split_at.result.0.now) c.earlier_link-earlier.result) c.link_role.ensures
     (c.earlier_link-earlier.ensures.link (rw c.in-Err-Broken.field-0-is e))) in
     let others = λ (other : rule ≢ 307). c.earlier_link-earlier.ensures.others (rw c.in-Err-Broken.field-0-is other) in
     subst (λ (f : RecordFault). IsEarlierLinkIfAny s list f c.broken-in-Err-Broken.result.earlier) (sym fault)
@@ -116,7 +116,7 @@ loop-record-preserved c =
       there = let there = slice_get_within list place r here in omega (arith, there);
       rest = one_left_less list c.loop-record.rest _ place i.rest c.advance.ensures;
       zipped =
-          zip_taken (StatesPlanRecord s list) [] list place r (records_of c.loop-record.list) c.in-Ok.planned (records_of c.put_behind.new.list) (slice_get_within list place r here) (got_there list place r here)
+          zip_taken (StatesPlanRecord s list) [] list place r (plan_records_of c.loop-record.list) c.in-Ok.planned (plan_records_of c.put_behind.new.list) (slice_get_within list place r here) (got_there list place r here)
           c.in_ok-spare-in-Ok.ensures i.zipped states;
       ahead = ahead_more place c.args.references.now.repeat i.ahead elsewhere;
       left = subst (AreTargets list (drop (c.loop-record.place + 1) c.args.records)) (sym (c.split_at.ensures.back ∙ ap (λ (es : List End). drop (length es) c.loop-record.targets.now) c.ends.ensures))
@@ -130,7 +130,7 @@ loop-record-init c = record {
   finders = c.new-attribute_classes.ensures;
   there = omega arith;
   rest = c.into_rest-rest.ensures;
-  zipped = subst (AllZip (StatesPlanRecord c.args.schema.now c.args.records) []) (sym (ap records_of c.in_ok-list.ensures)) tt;
+  zipped = subst (AllZip (StatesPlanRecord c.args.schema.now c.args.records) []) (sym (ap plan_records_of c.in_ok-list.ensures)) tt;
   ahead = search rules;
   left = search rules;
   done = record {
@@ -154,4 +154,4 @@ pub returns-clause-each : goal.returns-clause-each
 returns-clause-each c =
     let list = c.args.records in
     let all = none_left list c.loop-record.rest c.loop-record.place c.loop-record.invariant.rest c.loop-record.invariant.there c.in_default.ensures in
-    subst (λ rs. AllZip (StatesPlanRecord c.args.schema.now list) rs (records_of c.loop-record.list)) (take_all c.loop-record.place list (omega (arith, all))) c.loop-record.invariant.zipped
+    subst (λ rs. AllZip (StatesPlanRecord c.args.schema.now list) rs (plan_records_of c.loop-record.list)) (take_all c.loop-record.place list (omega (arith, all))) c.loop-record.invariant.zipped

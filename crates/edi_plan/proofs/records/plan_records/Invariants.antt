@@ -3,7 +3,7 @@ use Rattle.std.specs.List.{AllZip}
 use Rattle.edi_plan.specs.inner.Done.{IsDone}
 use Rattle.edi_plan.specs.PlanOf.{StatesPlanRecord}
 use Rattle.edi_plan.specs.inner.Targets.{AreTargets}
-use Rattle.edi_plan.specs.inner.RecordLists.{records_of}
+use Rattle.edi_plan.specs.inner.RecordLists.{plan_records_of}
 use Rattle.edi_plan.proofs.records.plan_records.Given as goal
 
 abbrev pub invariant-loop-record : goal.invariant-loop-record
@@ -12,7 +12,7 @@ invariant-loop-record l = record {
   finders : l.attribute_classes ≡ l.schema;
   there : l.place ≤ length l.fn.records;
   rest : l.rest ≡ drop l.place l.fn.records;
-  zipped : AllZip (StatesPlanRecord l.schema l.fn.records) (take l.place l.fn.records) (records_of l.list);
+  zipped : AllZip (StatesPlanRecord l.schema l.fn.records) (take l.place l.fn.records) (plan_records_of l.list);
   ahead : (k : ℕ) → l.references.repeat ≡ Some k → l.place ≤ k;
   left : AreTargets l.fn.records (drop l.place l.fn.records) l.targets;
   done : IsDone l.schema l.fn.records l.place l.sides.items;

@@ -2,7 +2,7 @@ use Rattle.std.proofs.Common.{◌≡◌, ◌∙◌, ◌<◌, ◌+◌, ℕ, Bool,
 use Rattle.edi_record.specs.Shapes.{stated_at}
 use Rattle.edi_record.proofs.StatedAt.{stated_there}
 use Rattle.edi_plan.specs.inner.Findings.{EachAt}
-use Rattle.edi_plan.specs.inner.Names.{place_in, RepeatsAt}
+use Rattle.edi_plan.specs.inner.Names.{place_in, RepeatsNameAt}
 use Rattle.edi_plan.proofs.FindingLemmas.{each_pushed, repeats_record, record_repeats}
 use Rattle.edi_plan.proofs.NameLemmas.{first_own, first_put, repeats_here}
 use Rattle.edi_plan.proofs.repeated_names.repeated_names.Goals as goal
@@ -17,7 +17,7 @@ loop-place-preserved c =
     let new = c.place_or.new.places.entries in
     let here : slice_get records n ≡ Some r = stated_there records n (subst (λ m. n < m) c.len-place-end.ensures.len c.loop-place-test.true) in
     let own = first_own records n r here false refl name c.name_at.ensures table new c.in_ok-first.ensures.put c.loop-place.invariant.first in
-    let P : ℕ → Bool → Type 0 = λ k b. (b ≡ true → RepeatsAt records k) × (RepeatsAt records k → b ≡ true) in
+    let P : ℕ → Bool → Type 0 = λ k b. (b ≡ true → RepeatsNameAt records k) × (RepeatsNameAt records k → b ≡ true) in
     record {
       first = first_put records n r here false refl name c.name_at.ensures table new c.in_ok-first.ensures.put c.loop-place.invariant.first;
       long = ap length c.in_ok-push.ensures.items ∙ (length-append c.loop-place.found.items _ ∙ ap (λ k. k + 1) c.loop-place.invariant.long);

@@ -1,7 +1,7 @@
 use Rattle.std.proofs.Common.{sym, ap, ◌∙◌}
 use Rattle.std.specs.List.{list_any}
 use Rattle.edi_line.specs.ZoneData.{entry}
-use Rattle.edi_record.specs.inner.Records.{placed}
+use Rattle.edi_record.specs.inner.Records.{zones_placed}
 use Rattle.edi_record.specs.inner.RecordRules.{is_unknown_pointer}
 use Rattle.edi_record.proofs.AttributesRead.{cut_first, nothing_left}
 use Rattle.edi_record.proofs.GroupRules.{placed_found, placed_passed, placed_end}
@@ -10,17 +10,17 @@ use Rattle.edi_record.proofs.group_rules.has_unknown.Goals as goal
 pub returns-then-is_unknown : goal.returns-then-is_unknown
 returns-then-is_unknown c =
     sym (c.loop-left.invariant
-    ∙ ap (λ zs. list_any (is_unknown_pointer c.args.kind) (placed c.loop-left.is_open zs)) (cut_first c.loop-left.left.now _ c.zone-item.result c.in-len1-up.len_at_least c.zone-item.is)
+    ∙ ap (λ zs. list_any (is_unknown_pointer c.args.kind) (zones_placed c.loop-left.is_open zs)) (cut_first c.loop-left.left.now _ c.zone-item.result c.in-len1-up.len_at_least c.zone-item.is)
     ∙ placed_found (is_unknown_pointer c.args.kind) c.loop-left.is_open (entry c.zone-item.result) _ (sym c.is_unknown.ensures ∙ c.if-is_unknown.true))
 
 pub loop-left-preserved : goal.loop-left-preserved
 loop-left-preserved c =
     c.loop-left.invariant
-    ∙ ap (λ zs. list_any (is_unknown_pointer c.args.kind) (placed c.loop-left.is_open zs)) (cut_first c.loop-left.left.now _ c.zone-item.result c.in-len1-up.len_at_least c.zone-item.is)
+    ∙ ap (λ zs. list_any (is_unknown_pointer c.args.kind) (zones_placed c.loop-left.is_open zs)) (cut_first c.loop-left.left.now _ c.zone-item.result c.in-len1-up.len_at_least c.zone-item.is)
     ∙ placed_passed (is_unknown_pointer c.args.kind) c.loop-left.is_open c.is_open_behind-is_open.result (entry c.zone-item.result) _ (sym c.is_unknown.ensures ∙ c.if-is_unknown.false) c.is_open_behind-is_open.ensures
 
 pub returns : goal.returns
 returns c =
     sym (c.loop-left.invariant
-    ∙ ap (λ zs. list_any (is_unknown_pointer c.args.kind) (placed c.loop-left.is_open zs)) (nothing_left c.loop-left.left.now c.in_default.len_below)
+    ∙ ap (λ zs. list_any (is_unknown_pointer c.args.kind) (zones_placed c.loop-left.is_open zs)) (nothing_left c.loop-left.left.now c.in_default.len_below)
     ∙ placed_end (is_unknown_pointer c.args.kind) c.loop-left.is_open)

@@ -2,7 +2,7 @@ use Rattle.std.proofs.Common.{sym, ◌∙◌, subst, map}
 use Rattle.std.specs.List.{IsDistinct}
 use Rattle.std.proofs.lemmas.Result.{err_from_is_err_and}
 use Rattle.edi_schema.specs.Classes.{is_name}
-use Rattle.edi_schema.specs.inner.Drafts.{said}
+use Rattle.edi_schema.specs.inner.Drafts.{definition_said}
 use Rattle.edi_schema.specs.inner.Steps.{IsFirstRepeat}
 use Rattle.edi_schema.specs.inner.Steps.StopsAt.{class_unidentified, word_unidentified, class_repeats, word_repeats, lacks_word}
 use Rattle.edi_schema.proofs.Stopping.{if_stops, all_identified, one_unidentified, names_again, same_keys}
@@ -47,7 +47,7 @@ returns-in_err-drafts-clause-stopped c =
 
 pub sorted_by_name-requires : goal.sorted_by_name-requires
 sorted_by_name-requires c =
-    subst (IsDistinct is_name) (names_again c.args.classes.now ∙ sym (same_keys c.args.kinds.now (map said c.args.words.now) (map said c.args.classes.now) _ c.in_ok-drafts.ensures.drafts)) c.in_ok-titles.ensures.distinct
+    subst (IsDistinct is_name) (names_again c.args.classes.now ∙ sym (same_keys c.args.kinds.now (map definition_said c.args.words.now) (map definition_said c.args.classes.now) _ c.in_ok-drafts.ensures.drafts)) c.in_ok-titles.ensures.distinct
 
 pub returns-clause-stated : goal.returns-clause-stated
 returns-clause-stated c = record {

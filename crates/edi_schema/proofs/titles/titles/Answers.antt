@@ -2,7 +2,7 @@ use Rattle.std.proofs.Common.{◌≡◌, ◌∙◌, ◌+◌, map, take, refl, sy
 use Rattle.std.specs.List.{IsDistinct}
 use Rattle.std.proofs.lemmas.Grind.{common_steps}
 use Rattle.edi_schema.specs.Classes.{is_name}
-use Rattle.edi_schema.specs.inner.Drafts.{named, said}
+use Rattle.edi_schema.specs.inner.Drafts.{title_name, definition_said}
 use Rattle.edi_schema.proofs.Distinct.{names_distinct, none_distinct, repeat_found, all_distinct}
 use Rattle.edi_schema.proofs.titles.titles.Goals as goal
 
@@ -11,7 +11,7 @@ loop-place-init c = record { names = rw c.with_hasher-titles.ensures.empty refl;
 
 pub loop-place-preserved : goal.loop-place-preserved
 loop-place-preserved c =
-    let more : map named c.insert.new.self.keys ≡ map (λ d. (said d).name) (take (c.loop-place.place + 1) c.args.records.now) = grind (arith, common_steps) in
+    let more : map title_name c.insert.new.self.keys ≡ map (λ d. (definition_said d).name) (take (c.loop-place.place + 1) c.args.records.now) = grind (arith, common_steps) in
     record { names = more; distinct = subst (IsDistinct is_name) more (names_distinct _ (λ a b. refl) c.insert.new.self.keys c.in_ok-insert.ensures.unique) }
 
 pub returns-then-not-branch-clause-repeat : goal.returns-then-not-branch-clause-repeat

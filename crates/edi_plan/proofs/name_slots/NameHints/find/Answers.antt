@@ -1,14 +1,14 @@
 use Rattle.std.proofs.Common.{◌∙◌, ap, length, sym}
 use Rattle.std.specs.Prelude.{is_some, if◌then◌else◌}
 use Rattle.edi_plan.specs.inner.Hints.{far_number, first_named, near_number, slots_at}
-use Rattle.edi_plan.specs.inner.Names.{named}
+use Rattle.edi_plan.specs.inner.Names.{name_lent}
 use Rattle.edi_plan.proofs.HintLemmas.{first_of_two}
 use Rattle.edi_plan.proofs.name_slots.NameHints.find.Goals as goal
 
 pub returns-then-is_some : goal.returns-then-is_some
 returns-then-is_some c =
     let list = c.args.records.now in
-    let name = named c.args.name.now in
+    let name = name_lent c.args.name.now in
     let slots = c.args.self.now.slots.items in
     let near = slots_at slots (near_number c.args.name.now.kind c.args.name.now.rid.now) in
     let far = slots_at slots (far_number (length slots) c.args.name.now.kind c.args.name.now.rid.now) in
@@ -19,7 +19,7 @@ returns-then-is_some c =
 pub returns : goal.returns
 returns c =
     let list = c.args.records.now in
-    let name = named c.args.name.now in
+    let name = name_lent c.args.name.now in
     let slots = c.args.self.now.slots.items in
     let near = slots_at slots (near_number c.args.name.now.kind c.args.name.now.rid.now) in
     let far = slots_at slots (far_number (length slots) c.args.name.now.kind c.args.name.now.rid.now) in

@@ -5,8 +5,8 @@ use Rattle.edi_record.specs.declared.record.Kind.{Kind}
 use Rattle.edi_plan.specs.Plans.{blank, same_kind}
 use Rattle.edi_plan.specs.Places.{places_from}
 use Rattle.edi_plan.specs.declared.record.PlanRecord.{PlanRecord}
-use Rattle.edi_plan.specs.inner.Places.{listed}
-use Rattle.edi_plan.specs.inner.RecordLists.{record_of, records_of}
+use Rattle.edi_plan.specs.inner.Places.{places_listed}
+use Rattle.edi_plan.specs.inner.RecordLists.{plan_record_of, plan_records_of}
 use Rattle.edi_plan.proofs.RecordLists.{record_there}
 use Rattle.edi_plan.proofs.places.Places.among.Goals as goal
 
@@ -33,25 +33,25 @@ all_added f ps rs n none past = at_drop_all (λ xs. ps ++ f xs) rs n past ∙ (a
 
 pub loop-place-preserved : goal.loop-place-preserved
 loop-place-preserved c =
-    let rs = records_of c.args.list.now in
+    let rs = plan_records_of c.args.list.now in
     let n = c.loop-place.place in
-    let there : n < length rs = omega (arith, length-map c.args.list.now record_of) in
+    let there : n < length rs = omega (arith, length-map c.args.list.now plan_record_of) in
     let here = record_there c.args.list.now n (record_lent c.record.result) c.record.ensures in
     let kind_is = sym (ap (λ (r : PlanRecord). r.kind) here) in
     let ks = c.loop-place.places.kinds.items in (
       ap (λ xs. xs ++ map (λ (r : PlanRecord). r.kind) (drop (n + 1) rs)) (c.in_ok-add.ensures.kinds ∙ ap (λ (k : Kind). ks ++ k ∷ []) kind_is)
           ∙ (kinds_more ks rs n there ∙ c.loop-place.invariant.0),
       λ kind.
-          let ps = listed c.loop-place.places kind in
+          let ps = places_listed c.loop-place.places kind in
           ap (λ xs. xs ++ places_from kind (n + 1) (drop (n + 1) rs)) (c.in_ok-add.ensures.places kind ∙ ap (λ (k : Kind). cond (same_kind kind k) (ps ++ n ∷ []) ps) kind_is)
           ∙ (places_more kind ps rs n there ∙ c.loop-place.invariant.1 kind),
     )
 
 pub returns : goal.returns
 returns c =
-    let rs = records_of c.args.list.now in
+    let rs = plan_records_of c.args.list.now in
     let n = c.loop-place.place in
-    let past : length rs ≤ n = omega (arith, length-map c.args.list.now record_of) in (
+    let past : length rs ≤ n = omega (arith, length-map c.args.list.now plan_record_of) in (
       sym (all_added (λ xs. map (λ (r : PlanRecord). r.kind) xs) c.loop-place.places.kinds.items rs n refl past) ∙ c.loop-place.invariant.0,
-      λ kind. sym (all_added (places_from kind n) (listed c.loop-place.places kind) rs n refl past) ∙ c.loop-place.invariant.1 kind,
+      λ kind. sym (all_added (places_from kind n) (places_listed c.loop-place.places kind) rs n refl past) ∙ c.loop-place.invariant.1 kind,
     )

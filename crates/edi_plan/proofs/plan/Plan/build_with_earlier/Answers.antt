@@ -2,7 +2,7 @@ use Rattle.std.proofs.Common.{length, sym, subst, refl, arith}
 use Rattle.edi_plan.specs.inner.Done.{IsDone}
 use Rattle.edi_plan.specs.PlanOf.{IsPlanOf, StatesPlanRecord}
 use Rattle.std.proofs.lemmas.List.{length-map}
-use Rattle.edi_plan.specs.inner.RecordLists.{record_of, records_of}
+use Rattle.edi_plan.specs.inner.RecordLists.{plan_record_of, plan_records_of}
 use Rattle.edi_plan.proofs.Built.{plans_agreeing, plans_whole, zip_length}
 use Rattle.edi_plan.proofs.JoinedLemmas.{plans_joined}
 use Rattle.edi_plan.proofs.PlanLemmas.{all_unbroken, sides_of}
@@ -27,7 +27,7 @@ pub invariant_of-result : goal.invariant_of-result
 invariant_of-result c =
     let s = c.args.schema.now in
     let sheet = c.args.sheet in
-    let plan : IsPlanOf s sheet (record { cse = sheet.cse; list = records_of c.in_ok-planned.planned.list }) = record { set = refl; each = c.in_ok-planned.ensures.each } in
+    let plan : IsPlanOf s sheet (record { cse = sheet.cse; list = plan_records_of c.in_ok-planned.planned.list }) = record { set = refl; each = c.in_ok-planned.ensures.each } in
     let done = c.in_ok-planned.ensures.sides in (
       record {
         whole = plans_whole s sheet _ plan (all_unbroken s sheet.list c.in_ok-planned.planned.sides.items done);
@@ -39,6 +39,6 @@ invariant_of-result c =
 
 pub among-requires-2 : goal.among-requires-2
 among-requires-2 c =
-    let long = zip_length (StatesPlanRecord c.args.schema.now c.args.sheet.list) c.args.sheet.list (records_of c.in_ok-planned.planned.list) c.in_ok-planned.ensures.each in
+    let long = zip_length (StatesPlanRecord c.args.schema.now c.args.sheet.list) c.args.sheet.list (plan_records_of c.in_ok-planned.planned.list) c.in_ok-planned.ensures.each in
     let few = c.args.sheet.few in
-    omega (arith, long, few, length-map c.in_ok-planned.planned.list record_of)
+    omega (arith, long, few, length-map c.in_ok-planned.planned.list plan_record_of)

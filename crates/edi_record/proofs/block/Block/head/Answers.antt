@@ -17,6 +17,7 @@ returns g c =
     let h = c.index.result.now in
     let there : c.args.place < length heads =
     omega (arith, c.requires, ap length c.self.view_is, records_long all no_stops heads)
-    in
-    (parts_between all (stops_before c.args.place no_stops heads) h.stops,
-    ap (λ es. slice_get es c.args.place) (sym c.self.view_is) ∙ record_there all no_stops heads c.args.place h there c.index.ensures)
+    in (
+      parts_between all (stops_before c.args.place no_stops heads) h.stops,
+      ap (λ es. slice_get es c.args.place) (sym c.self.view_is) ∙ record_there all no_stops heads c.args.place h there c.index.ensures,
+    )

@@ -1,7 +1,7 @@
 use Rattle.std.proofs.Common.{◌∙◌, ◌∷◌, ◌+◌, sym, ap, subst, take}
 use Rattle.std.proofs.lemmas.List.{take_rest}
 use Rattle.std.specs.Option.{ForSome}
-use Rattle.edi_record.specs.inner.Texts.{parts, AreMarks}
+use Rattle.edi_record.specs.inner.Texts.{parts, AreSemicolons}
 use Rattle.edi_record.proofs.TextParts.{cut_at, cut_none}
 use Rattle.edi_record.proofs.marked.Marked.cut.Goals as goal
 
@@ -14,4 +14,4 @@ returns c =
     ∙ ap (λ xs. take c.in_ok-at.at c.args.self.text.now ∷ parts xs) (sym (take_rest c.args.self.text.now (c.in_ok-at.at + 1)))
 
 pub invariant_of-rest : goal.invariant_of-rest
-invariant_of-rest c = record { right = subst (λ t. ForSome c.marks_behind.result (AreMarks t)) (sym (take_rest c.args.self.text.now (c.in_ok-at.at + 1))) c.marks_behind.ensures }
+invariant_of-rest c = record { right = subst (λ t. ForSome c.marks_behind.result (AreSemicolons t)) (sym (take_rest c.args.self.text.now (c.in_ok-at.at + 1))) c.marks_behind.ensures }
