@@ -62,7 +62,7 @@ module _ (s : Classes) (p q : PlanData) (pairing : Pairing) where
   }
 
   -- a record that is carried agrees with the one that it goes to
-  agrees : PairingCarries s p q pairing → (i : ℕ) → IsPlace p i → (part : RecordPart) → AgreeAt matching_of i part
+  agrees : PairingCarries s p q pairing → (i : ℕ) → IsPlace p i → (part : RecordPart) → AgreeAt matching_of i (slice_index pairing.to i) part
   agrees h i there Reversal = h.carries.arcs i there
   agrees h i there Kind = (h.carries.each i there).kind
   agrees h i there Class = (h.carries.each i there).class

@@ -2,24 +2,19 @@
 
 ghost use Rattle.std.specs.Prelude.{◌≡◌, ◌↔◌, ◌<◌, ℕ, IsTrue, IfOk, IfSome, MatchOption, false, length, slice_index, slice_index_or, true};
 ghost use Rattle.edi_plan.specs.Plans.{IsPlace};
-ghost use Rattle.edi_compare.specs.inner.Checking.{AgreeAt, AreCarried, AreMarked, HaveOtherBody, HaveSameBody, IsCarriedAt, IsUnlikeAt, IsWrongAt, StopsAt};
+ghost use Rattle.edi_compare.specs.inner.Checking.{AgreeAt, AreCarried, AreMarked, IsCarriedAt, IsUnlikeAt, IsWrongAt, StopsAt};
 ghost use Rattle.edi_compare.specs.Uncarried.{IsUncarriedBy};
 ghost use Rattle.edi_compare.specs.declared.uncarried.RecordPart.{RecordPart as Part};
-ghost use Rattle.edi_compare.specs.declared.uncarried.RecordPart.TheVariants.{Reversal};
 ghost use Rattle.edi_plan.specs.Agreeing.{HasClasses};
 ghost use Rattle.edi_compare.specs.Pairings.{PairingCarries};
 
 use crate::accepted::Accepted;
-use crate::contents::{same_attributes, same_extras, same_points, same_texts};
-use crate::moved_ends::same_ends;
+use crate::carrier::Carrier;
+use crate::contents::same_texts;
 use crate::pairing::Pairing;
 use crate::uncarried::{RecordPart, Uncarried, WrongPartner};
-use edi_plan::Plan;
-use edi_rank::class_turned;
-use edi_record::Kind;
 use edi_schema::Schema;
 use std::alloc::{AllocError, Global};
-use std::marker::Model;
 
 /// Whether a pairing carries the first plan onto the second, of two sheets that were accepted under
 /// this schema: it has an entry for each record of the first and takes these one to one onto the
@@ -66,49 +61,17 @@ pub fn first_uncarried(
     if !same_texts(other.cse(), plan.cse()) {
         return Ok(Some(Uncarried::CharacterSets));
     }
-    let pairs = Pairs {
+    let carrier = Carrier {
         schema,
         plan,
         other,
         to,
         turned,
     };
-    pairs.first_stop(alloc)
+    carrier.first_stop(alloc)
 }
 
-/// Two plans, and for each record of the first where it goes in the second and whether it is turned.
-#[derive(Drop)]
-struct Pairs<'a> {
-    schema: &'a Schema,
-    plan: &'a Plan,
-    other: &'a Plan,
-    to: &'a [u32],
-    turned: &'a [bool],
-}
-
-impl<'a> Model for Pairs<'a> {
-    ghost use Rattle.edi_compare.specs.inner.Checking.{Matching, IsFitting};
-
-    ghost Value = { Matching };
-
-    ghost view = { λ p. record {
-      classes = p.schema.now;
-      plan = p.plan.now;
-      other = p.other.now;
-      to = p.to.now;
-      turned = p.turned.now;
-    } };
-
-    ghost invariant = { λ p. IsFitting (record {
-      classes = p.schema.now;
-      plan = p.plan.now;
-      other = p.other.now;
-      to = p.to.now;
-      turned = p.turned.now;
-    }) };
-}
-
-impl<'a> Pairs<'a> {
+impl<'a> Carrier<'a> {
     /// The first record that isn't carried, or else the first of the second plan to which none goes.
     fn first_stop(&self, alloc: Global) -> Result<Option<Uncarried>, AllocError>
         ensures { IfOk result (λ why. MatchOption why (AreCarried self.now) (StopsAt self.now)) }
@@ -160,7 +123,7 @@ impl<'a> Pairs<'a> {
             let earlier = self.first_to(place, target);
             return Ok(Some(WrongPartner::Shared { earlier }));
         }
-        match self.part_unlike(alloc, place)? {
+        match self.part_unlike(alloc, place, target)? {
             Some(part) => Ok(Some(WrongPartner::Unlike { part })),
             None => Ok(None),
         }
@@ -181,73 +144,21 @@ impl<'a> Pairs<'a> {
         unreachable!()
     }
 
-    /// The first part in which a record and the one that it goes to differ.
-    fn part_unlike(&self, alloc: Global, place: u32) -> Result<Option<RecordPart>, AllocError>
+    /// The first part in which a record and one of the second plan differ.
+    fn part_unlike(
+        &self,
+        alloc: Global,
+        place: u32,
+        target: u32,
+    ) -> Result<Option<RecordPart>, AllocError>
         requires place { IsPlace self.now.plan place }
-        requires there { IsPlace self.now.other (slice_index self.now.to place) }
+        requires target { IsPlace self.now.other target }
         ensures { IfOk result (λ part.
-            MatchOption part ((p : Part) → AgreeAt self.now place p) (IsUnlikeAt self.now place)) }
+            MatchOption part ((p : Part) → AgreeAt self.now place target p) (IsUnlikeAt self.now place target)) }
     {
-        if let Some(part) = self.body_unlike(place) {
-            return Ok(Some(part));
+        if !self.agrees_in(alloc, place, target, RecordPart::Reversal)? {
+            return Ok(Some(RecordPart::Reversal));
         }
-        let target = self.target(place);
-        let attributes = self.plan.attributes(place);
-        if !same_attributes(alloc, attributes, self.other.attributes(target))? {
-            return Ok(Some(RecordPart::Attributes));
-        }
-        self.plan.keeps();
-        if !same_ends(
-            alloc,
-            self.to,
-            self.plan.ends(place),
-            self.other.ends(target),
-        )? {
-            return Ok(Some(RecordPart::Ends));
-        }
-        Ok(None)
-    }
-
-    /// Where a record goes.
-    fn target(&self, place: u32) -> u32
-        requires { IsPlace self.now.plan place }
-        ensures { result ≡ slice_index self.now.to place }
-    {
-        self.to[place as usize]
-    }
-
-    /// The first part that needs no order in which a record and the one that it goes to differ: the type, the class,
-    /// the points and the extra zones, and before these whether it may be turned.
-    fn body_unlike(&self, place: u32) -> Option<RecordPart>
-        requires place { IsPlace self.now.plan place }
-        requires there { IsPlace self.now.other (slice_index self.now.to place) }
-        ensures { MatchOption result (HaveSameBody self.now place) (HaveOtherBody self.now place) }
-    {
-        let target = self.target(place);
-        let turned = self.turned[place as usize];
-        if !self.may_turn(place) {
-            return Some(RecordPart::Reversal);
-        }
-        if self.other.kind(target) != self.plan.kind(place) {
-            return Some(RecordPart::Kind);
-        }
-        if self.other.scp(target) != class_turned(self.schema, self.plan, self.turned, place) {
-            return Some(RecordPart::Class);
-        }
-        if !same_points(self.plan.points(place), turned, self.other.points(target)) {
-            return Some(RecordPart::Points);
-        }
-        if !same_extras(self.plan.extras(place), self.other.extras(target)) {
-            return Some(RecordPart::Extras);
-        }
-        None
-    }
-
-    /// Whether a record is an arc if it is turned.
-    fn may_turn(&self, place: u32) -> bool
-        requires { IsPlace self.now.plan place }
-        ensures { IsTrue result ↔ AgreeAt self.now place Reversal }
-    {
-        !self.turned[place as usize] || self.plan.kind(place) == Kind::Par
+        self.first_unlike(alloc, place, target)
     }
 }

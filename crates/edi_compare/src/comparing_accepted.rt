@@ -4,6 +4,7 @@ ghost use Rattle.std.specs.Prelude.{IfOk};
 ghost use Rattle.edi_rank.specs.Labelling.{AreLabels};
 ghost use Rattle.edi_compare.specs.inner.Forms.{HasFirst, IsPlanForm};
 ghost use Rattle.edi_compare.specs.HeldPlans.{IsHeldPlan};
+ghost use Rattle.edi_compare.specs.Laws.{IsAcceptedPlan};
 ghost use Rattle.edi_compare.specs.Verdicts.{IsPlanVerdict};
 
 use crate::accepted::{Accepted, hold_bytes};
@@ -65,9 +66,9 @@ fn form_of_plan(alloc: Global, schema: &Schema, sheet: &Accepted) -> Result<Plan
     Ok(PlanForm { labels, file })
 }
 
-/// The labels of an accepted plan, in which no two objects are equal.
-fn labels_of(alloc: Global, schema: &Schema, sound: &Sound) -> Result<Labels, AllocError>
-    requires { IsHeldPlan schema.now sound.now }
+/// The labels of the plan of an accepted sheet, in which no two objects are equal. The only error is want of memory.
+pub fn labels_of(alloc: Global, schema: &Schema, sound: &Sound) -> Result<Labels, AllocError>
+    requires { IsAcceptedPlan schema.now sound.now }
     ensures { IfOk result (AreLabels schema.now sound.now) }
 {
     match Labels::of(alloc, schema, sound) {

@@ -4,11 +4,11 @@ use Rattle.edi_schema.specs.Classes.{Classes}
 use Rattle.edi_plan.specs.Plans.{PlanData, IsPlace, record_at}
 use Rattle.edi_plan.specs.declared.record.PlanEnd.{PlanEnd}
 use Rattle.edi_rank.specs.Labelling.{turned_at}
+use Rattle.edi_rank.specs.Same.{CarriesRecord}
 use Rattle.edi_plan.specs.Agreeing.{HasClasses}
 use Rattle.edi_compare.specs.Uncarried.{AgreeIn, IsCarried, IsFirstUnlike, IsFirstUnmet, IsFirstUncarried, IsWrongPartner}
 use Rattle.edi_compare.specs.declared.moved_ends.MovedEnd.{MovedEnd}
 use Rattle.edi_compare.specs.declared.uncarried.RecordPart.{RecordPart}
-use Rattle.edi_compare.specs.declared.uncarried.RecordPart.TheVariants.{Reversal, Kind, Class, Points, Extras}
 use Rattle.edi_compare.specs.declared.uncarried.Uncarried.{Uncarried}
 use Rattle.edi_compare.specs.declared.uncarried.Uncarried.TheVariants.{Entries, CharacterSets, Record, Unmet}
 use Rattle.edi_compare.specs.declared.uncarried.WrongPartner.{WrongPartner}
@@ -34,34 +34,20 @@ IsCarriedAt m i = IsCarried m.classes (slice_index m.to) (turned_at m.turned) m.
 abbrev pub IsWrongAt : Matching → ℕ → WrongPartner → Type 0
 IsWrongAt m i why = IsWrongPartner m.classes (slice_index m.to) (turned_at m.turned) m.plan m.other i why
 
--- the record and the one that it goes to agree in a part
-abbrev pub AgreeAt : Matching → ℕ → RecordPart → Type 0
-AgreeAt m i part =
-    AgreeIn m.classes (slice_index m.to) (turned_at m.turned) i (record_at m.plan i)
-    (record_at m.other (slice_index m.to i)) part
+-- the record at the place i is that at the place j of the other plan
+abbrev pub IsCarriedTo : Matching → ℕ → ℕ → Type 0
+IsCarriedTo m i j =
+    CarriesRecord m.classes (slice_index m.to) (turned_at m.turned) i (record_at m.plan i) (record_at m.other j)
 
-abbrev pub IsUnlikeAt : Matching → ℕ → RecordPart → Type 0
-IsUnlikeAt m i part =
-    IsFirstUnlike m.classes (slice_index m.to) (turned_at m.turned) i (record_at m.plan i)
-    (record_at m.other (slice_index m.to i)) part
+-- the two agree in a part
+abbrev pub AgreeAt : Matching → ℕ → ℕ → RecordPart → Type 0
+AgreeAt m i j part =
+    AgreeIn m.classes (slice_index m.to) (turned_at m.turned) i (record_at m.plan i) (record_at m.other j) part
 
--- they agree in what needs no order
-pub record HaveSameBody (m : Matching) (i : ℕ) : Type 0 where
-  pub reversal : AgreeAt m i Reversal
-  pub kind : AgreeAt m i Kind
-  pub class : AgreeAt m i Class
-  pub points : AgreeAt m i Points
-  pub extras : AgreeAt m i Extras
-
--- the first of these parts in which they don't
-abbrev pub HaveOtherBody : Matching → ℕ → RecordPart → Type 0
-HaveOtherBody m i Reversal = ¬ (AgreeAt m i Reversal)
-HaveOtherBody m i Kind = AgreeAt m i Reversal × (¬ (AgreeAt m i Kind))
-HaveOtherBody m i Class = AgreeAt m i Reversal × AgreeAt m i Kind × (¬ (AgreeAt m i Class))
-HaveOtherBody m i Points = AgreeAt m i Reversal × AgreeAt m i Kind × AgreeAt m i Class × (¬ (AgreeAt m i Points))
-HaveOtherBody m i Extras =
-    AgreeAt m i Reversal × AgreeAt m i Kind × AgreeAt m i Class × AgreeAt m i Points × (¬ (AgreeAt m i Extras))
-HaveOtherBody m i _ = ⊥
+-- it is the first part in which they don't
+abbrev pub IsUnlikeAt : Matching → ℕ → ℕ → RecordPart → Type 0
+IsUnlikeAt m i j part =
+    IsFirstUnlike m.classes (slice_index m.to) (turned_at m.turned) i (record_at m.plan i) (record_at m.other j) part
 
 -- the marks of places: those to which the first so many records go
 pub record AreMarked (to : ℕ → ℕ) (marks : List Bool) (count done : ℕ) : Type 0 where

@@ -6,12 +6,12 @@ use Rattle.edi_plan.specs.Plans.{PlanData}
 use Rattle.edi_rank.specs.Arranged.{arranged}
 use Rattle.edi_rank.specs.Labelling.{AreLabels}
 use Rattle.edi_write.specs.Layout.{layout}
-use Rattle.edi_compare.specs.HeldPlans.{IsHeldPlan}
+use Rattle.edi_compare.specs.Laws.{IsAcceptedPlan}
 use Rattle.edi_compare.proofs.Forms.{plan_form}
 use Rattle.edi_compare.proofs.comparing_accepted.form_of_plan.Goals as goal
 
 pub labels_of-requires : goal.labels_of-requires
-labels_of-requires c = subst (IsHeldPlan c.args.schema.now) (sym c.sound-sound.ensures) c.requires
+labels_of-requires c = subst (IsAcceptedPlan c.args.schema.now) (sym c.sound-sound.ensures) (c.requires.0, c.requires.2, c.requires.3)
 
 pub write_canon-requires : goal.write_canon-requires
 write_canon-requires c =

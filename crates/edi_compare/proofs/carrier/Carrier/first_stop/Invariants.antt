@@ -1,6 +1,6 @@
 use Rattle.std.proofs.Common.{ℕ, ◌<◌, length, slice_index}
 use Rattle.edi_compare.specs.inner.Checking.{AreMarked, IsCarriedAt}
-use Rattle.edi_compare.proofs.checking.Pairs.first_stop.Given as goal
+use Rattle.edi_compare.proofs.carrier.Carrier.first_stop.Given as goal
 
 -- the records so far are carried, and the places to which they go are marked
 abbrev pub invariant-loop-place : goal.invariant-loop-place

@@ -1,5 +1,5 @@
 use Rattle.std.proofs.Common.{◌≢◌, ◌<◌, ℕ, slice_index}
-use Rattle.edi_compare.proofs.checking.Pairs.first_to.Given as goal
+use Rattle.edi_compare.proofs.carrier.Carrier.first_to.Given as goal
 
 -- none so far goes there
 abbrev pub invariant-loop-earlier : goal.invariant-loop-earlier

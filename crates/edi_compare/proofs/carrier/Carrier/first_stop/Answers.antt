@@ -4,7 +4,7 @@ use borrow.Author.Count.{below_more}
 use Rattle.edi_compare.specs.inner.Checking.{AreMarked, IsCarriedAt, Matching}
 use Rattle.edi_compare.proofs.Marking.{one_more_marked}
 use Rattle.edi_compare.proofs.Stops.{all_met, one_unmet, where_none}
-use Rattle.edi_compare.proofs.checking.Pairs.first_stop.Goals as goal
+use Rattle.edi_compare.proofs.carrier.Carrier.first_stop.Goals as goal
 
 pub returns-in-Some : goal.returns-in-Some
 returns-in-Some c = record {

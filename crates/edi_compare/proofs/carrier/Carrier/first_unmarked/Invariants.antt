@@ -1,5 +1,5 @@
 use Rattle.std.proofs.Common.{◌≡◌, ◌<◌, ℕ, false, true, get_or}
-use Rattle.edi_compare.proofs.checking.Pairs.first_unmarked.Given as goal
+use Rattle.edi_compare.proofs.carrier.Carrier.first_unmarked.Given as goal
 
 -- each place so far is marked
 abbrev pub invariant-loop-place : goal.invariant-loop-place
