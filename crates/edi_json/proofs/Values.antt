@@ -1,13 +1,13 @@
 -- The values of lines: they are shallow, and their numbers are printed.
 use Rattle.std.proofs.Common.{◌≡◌, ℕ, ◌≤◌, Bool, true, false, List, [], ◌∷◌, ◌++◌, Option, Some, None, append_assoc, arith, codes, refl}
 use Rattle.std.specs.List.{AllByRecursion}
-use Rattle.json.specs.Json.{Items, Json, max_depth, no_items, null}
+use Rattle.json.specs.Json.{Items, max_depth}
 use Rattle.json.specs.Token.{Token}
 use Rattle.json.specs.Tree.{depth, items_depth, items_tokens, json_tokens}
 use Rattle.edi_record.specs.declared.record.Kind.{Kind}
 use Rattle.edi_report.specs.declared.parts.Parts.{Parts}
 use Rattle.edi_report.specs.declared.site.Site.{Site}
-use Rattle.edi_json.specs.Values.{added_value, changed_value, charsets_value, counts_value, gone_value, name_if, part_names, record_value, site_value, text_or_null}
+use Rattle.edi_json.specs.Values.{charsets_value, counts_value, name_if, part_names, record_value, site_or_null, text_or_null}
 use Rattle.edi_json.specs.inner.Tokens.{name_tokens}
 use Rattle.edi_json.proofs.PlainTexts.{IsPlainToken, all_append, plain_decimal}
 
@@ -38,38 +38,23 @@ plain_names parts =
 
 -- ---- records
 
-site_plain : (site : Site) → AllByRecursion IsPlainToken (json_tokens (site_value site))
-site_plain site = (tt, (tt, (tt, (tt, (plain_decimal site.line, (tt, tt))))))
+site_plain : (site : Option Site) → AllByRecursion IsPlainToken (json_tokens (site_or_null site))
+site_plain None = (tt, tt)
+site_plain (Some site) = (tt, (tt, (tt, (tt, (plain_decimal site.line, (tt, tt))))))
 
-record_plain : (mark : List ℕ) (kind : Kind) (a b : Json) (parts : Items) → AllByRecursion IsPlainToken (json_tokens a) → AllByRecursion IsPlainToken (json_tokens b) → AllByRecursion IsPlainToken (items_tokens parts)
-    → AllByRecursion IsPlainToken (json_tokens (record_value mark kind a b parts))
-record_plain mark kind a b parts first second named =
-    let behind = all_append IsPlainToken (items_tokens parts) (Token.end_object ∷ []) named (tt, tt) in
-    let there = all_append IsPlainToken (json_tokens b) _ second (tt, (tt, behind)) in
-    let here = all_append IsPlainToken (json_tokens a) _ first (tt, there) in
+site_shallow : (site : Option Site) → depth (site_or_null site) ≤ 2
+site_shallow None = omega arith
+site_shallow (Some site) = omega arith
+
+pub record_plain : (mark : List ℕ) (kind : Kind) (a b : Option Site) (parts : Parts) → AllByRecursion IsPlainToken (json_tokens (record_value mark kind a b parts))
+record_plain mark kind a b parts =
+    let behind = all_append IsPlainToken (items_tokens (part_names parts)) (Token.end_object ∷ []) (plain_names parts) (tt, tt) in
+    let there = all_append IsPlainToken (json_tokens (site_or_null b)) _ (site_plain b) (tt, (tt, behind)) in
+    let here = all_append IsPlainToken (json_tokens (site_or_null a)) _ (site_plain a) (tt, there) in
     (tt, (tt, (plain_decimal 1, (tt, (tt, (tt, (tt, (tt, (tt, (tt, here))))))))))
 
-record_shallow : (mark : List ℕ) (kind : Kind) (a b : Json) (parts : Items) → depth a ≤ 2 → depth b ≤ 2 → items_depth parts ≤ 2 → depth (record_value mark kind a b parts) ≤ max_depth
-record_shallow mark kind a b parts first second named = omega (arith, first, second, named)
-
-pub gone_shallow : (kind : Kind) (site : Site) → depth (gone_value kind site) ≤ max_depth
-gone_shallow kind site = record_shallow (codes "only_in_a") kind (site_value site) null no_items (omega arith) (omega arith) (omega arith)
-
-pub gone_plain : (kind : Kind) (site : Site) → AllByRecursion IsPlainToken (json_tokens (gone_value kind site))
-gone_plain kind site = record_plain (codes "only_in_a") kind (site_value site) null no_items (site_plain site) (tt, tt) (tt, tt)
-
-pub added_shallow : (kind : Kind) (site : Site) → depth (added_value kind site) ≤ max_depth
-added_shallow kind site = record_shallow (codes "only_in_b") kind null (site_value site) no_items (omega arith) (omega arith) (omega arith)
-
-pub added_plain : (kind : Kind) (site : Site) → AllByRecursion IsPlainToken (json_tokens (added_value kind site))
-added_plain kind site = record_plain (codes "only_in_b") kind null (site_value site) no_items (tt, tt) (site_plain site) (tt, tt)
-
-pub changed_shallow : (kind : Kind) (a b : Site) (parts : Parts) → depth (changed_value kind a b parts) ≤ max_depth
-changed_shallow kind a b parts =
-    record_shallow (codes "changed") kind (site_value a) (site_value b) (part_names parts) (omega arith) (omega arith) (omega (arith, names_shallow parts))
-
-pub changed_plain : (kind : Kind) (a b : Site) (parts : Parts) → AllByRecursion IsPlainToken (json_tokens (changed_value kind a b parts))
-changed_plain kind a b parts = record_plain (codes "changed") kind (site_value a) (site_value b) (part_names parts) (site_plain a) (site_plain b) (plain_names parts)
+pub record_shallow : (mark : List ℕ) (kind : Kind) (a b : Option Site) (parts : Parts) → depth (record_value mark kind a b parts) ≤ max_depth
+record_shallow mark kind a b parts = omega (arith, site_shallow a, site_shallow b, names_shallow parts)
 
 -- ---- character sets and counts
 

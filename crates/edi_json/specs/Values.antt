@@ -6,7 +6,7 @@ use Rattle.edi_record.specs.Shapes.{kind_code}
 use Rattle.edi_record.specs.declared.record.Kind.{Kind}
 use Rattle.edi_plan.specs.Plans.{record_at}
 use Rattle.edi_report.specs.Lines.{added_count, changed_count, gone_count}
-use Rattle.edi_report.specs.Reports.{Report, parts_at, site_at}
+use Rattle.edi_report.specs.Reports.{Report, no_parts, parts_at, site_at}
 use Rattle.edi_report.specs.declared.parts.Parts.{Parts}
 use Rattle.edi_report.specs.declared.site.Site.{Site}
 use Rattle.edi_json.specs.Listed.{Listed, gone, changed, added, listed}
@@ -34,6 +34,10 @@ abbrev pub site_value : Site → Json
 site_value site = object (member (codes "identifier") (text_value site.rid)
     (member (codes "line") (number_value site.line) no_members))
 
+abbrev pub site_or_null : Option Site → Json
+site_or_null None = null
+site_or_null (Some site) = site_value site
+
 -- a name, if it is said, in front of others
 abbrev pub name_if : Bool → List ℕ → Items → Items
 name_if said name names = if said then item (string name) names else names
@@ -46,26 +50,19 @@ part_names parts = name_if parts.class (codes "class") (name_if parts.attributes
 
 -- a record: in which sheet it stands or that it changed, its type, where it stands in A and in B, and the parts that
 -- differ
-abbrev pub record_value : List ℕ → Kind → Json → Json → Items → Json
+abbrev pub record_value : List ℕ → Kind → Option Site → Option Site → Parts → Json
 record_value mark kind a b parts = line_value (codes "record") (member (codes "mark") (string mark)
-    (member (codes "type") (text_value (kind_code kind)) (member (codes "a") a (member (codes "b") b
-    (member (codes "parts") (array parts) no_members)))))
-
-abbrev pub gone_value : Kind → Site → Json
-gone_value kind site = record_value (codes "only_in_a") kind (site_value site) null no_items
-
-abbrev pub added_value : Kind → Site → Json
-added_value kind site = record_value (codes "only_in_b") kind null (site_value site) no_items
-
-abbrev pub changed_value : Kind → Site → Site → Parts → Json
-changed_value kind a b parts = record_value (codes "changed") kind (site_value a) (site_value b) (part_names parts)
+    (member (codes "type") (text_value (kind_code kind)) (member (codes "a") (site_or_null a)
+    (member (codes "b") (site_or_null b) (member (codes "parts") (array (part_names parts)) no_members)))))
 
 -- the value of a record that is listed
 abbrev pub listed_value : Report → Listed → Json
-listed_value r (gone i) = gone_value (record_at r.first.accepted i).kind (site_at r.first i)
-listed_value r (changed i j) =
-    changed_value (record_at r.first.accepted i).kind (site_at r.first i) (site_at r.second j) (parts_at r.parts i)
-listed_value r (added j) = added_value (record_at r.second.accepted j).kind (site_at r.second j)
+listed_value r (gone i) =
+    record_value (codes "only_in_a") (record_at r.first.accepted i).kind (Some (site_at r.first i)) None no_parts
+listed_value r (changed i j) = record_value (codes "changed") (record_at r.first.accepted i).kind
+    (Some (site_at r.first i)) (Some (site_at r.second j)) (parts_at r.parts i)
+listed_value r (added j) =
+    record_value (codes "only_in_b") (record_at r.second.accepted j).kind None (Some (site_at r.second j)) no_parts
 
 abbrev pub listed_values : Report → List Listed → List Json
 listed_values r records = map (listed_value r) records

@@ -3,18 +3,14 @@
 ghost use Rattle.std.specs.Prelude.{◌≡◌, ◌<◌, ◌∷◌, [], IfOk, OnOk, flat_map, option_copied};
 ghost use Rattle.edi_plan.specs.Places.{places_of};
 ghost use Rattle.edi_plan.specs.Plans.{IsPlace};
-ghost use Rattle.edi_report.specs.Lines.{added_count, changed_count, gone_count};
-ghost use Rattle.edi_report.specs.Reports.{HasSites, parts_at, site_at};
 ghost use Rattle.edi_json.specs.Listed.{added, changed, first_listed, gone, listed, listed_of, second_listed};
 ghost use Rattle.edi_json.specs.Texts.{ReadsAs, differences_json};
-ghost use Rattle.edi_json.specs.Values.{charsets_values, counts_value, difference_values, listed_values};
+ghost use Rattle.edi_json.specs.Values.{charsets_values, difference_values, listed_values};
 ghost use Rattle.edi_json.specs.inner.Lines.{HasLines};
 
-use crate::counts::counts_of;
-use crate::lines;
-use edi_plan::Plan;
+use crate::lines::{self, RecordLine};
 use edi_record::Kind;
-use edi_report::{LocatedSheet, NO_PARTS, Parts, Reporter, Site};
+use edi_report::{NO_PARTS, Reporter, parts_at};
 use std::alloc::{AllocError, Global};
 
 /// What differs between two sheets, as lines of JSON (docs/JSON.md). The only error is want of memory.
@@ -25,7 +21,7 @@ pub fn differences_json(alloc: Global, report: &Reporter<'_>) -> Result<Vec<u8>,
     let mut text = Vec::new(alloc);
     push_charsets(alloc, &mut text, report)?;
     push_records(alloc, &mut text, report)?;
-    push_counts(alloc, &mut text, report)?;
+    lines::push_counts(alloc, &mut text, report)?;
     Ok(text)
 }
 
@@ -34,9 +30,12 @@ fn push_charsets(alloc: Global, text: &mut Vec<u8>, report: &Reporter<'_>) -> Re
     ensures { OnOk result (HasLines text.old.items text.new.items
         (charsets_values report.now.first.accepted.cse report.now.second.accepted.cse)) }
 {
-    let a = plan_of(report.first).cse();
-    let b = plan_of(report.second).cse();
-    push_unlike(alloc, text, a, b)
+    push_unlike(
+        alloc,
+        text,
+        report.first.plan().cse(),
+        report.second.plan().cse(),
+    )
 }
 
 /// Appends the line of two character sets, where they differ.
@@ -61,14 +60,6 @@ fn push_unlike(
         (Some(_), None) => lines::push_charsets(alloc, text, a, b),
         (None, Some(_)) => lines::push_charsets(alloc, text, a, b),
     }
-}
-
-/// Appends the line of the counts.
-fn push_counts(alloc: Global, text: &mut Vec<u8>, report: &Reporter<'_>) -> Result<(), AllocError>
-    ensures { OnOk result (HasLines text.old.items text.new.items
-        (counts_value (gone_count report.now) (added_count report.now) (changed_count report.now) ∷ [])) }
-{
-    lines::push_counts(alloc, text, &counts_of(report))
 }
 
 /// Appends the lines of the records that differ.
@@ -106,7 +97,7 @@ fn push_firsts(
     ensures { OnOk result (HasLines text.old.items text.new.items
         (listed_values report.now (flat_map (first_listed report.now) (places_of kind report.now.first.accepted)))) }
 {
-    for place in plan_of(report.first).places(kind) {
+    for place in report.first.places(kind) {
         push_first(alloc, text, report, *place)?;
     }
     Ok(())
@@ -122,7 +113,7 @@ fn push_seconds(
     ensures { OnOk result (HasLines text.old.items text.new.items
         (listed_values report.now (flat_map (second_listed report.now) (places_of kind report.now.second.accepted)))) }
 {
-    for place in plan_of(report.second).places(kind) {
+    for place in report.second.places(kind) {
         push_second(alloc, text, report, *place)?;
     }
     Ok(())
@@ -158,8 +149,14 @@ fn push_gone(
     requires { IsPlace report.now.first.accepted place }
     ensures { OnOk result (HasLines text.old.items text.new.items (listed_values report.now (gone place ∷ []))) }
 {
-    let kind = plan_of(report.first).kind(place);
-    lines::push_gone(alloc, text, kind, site_of(report.first, place))
+    let line = RecordLine {
+        mark: "only_in_a",
+        kind: report.first.plan().kind(place),
+        a: Some(report.first.site(place)),
+        b: None,
+        parts: NO_PARTS,
+    };
+    lines::push_record(alloc, text, &line)
 }
 
 /// Appends the line of a record that changed.
@@ -175,11 +172,14 @@ fn push_changed(
     ensures { OnOk result (HasLines text.old.items text.new.items
         (listed_values report.now (changed place target ∷ []))) }
 {
-    let kind = plan_of(report.first).kind(place);
-    let here = site_of(report.first, place);
-    let there = site_of(report.second, target);
-    let parts = parts_of(report.parts, place);
-    lines::push_changed(alloc, text, kind, here, there, &parts)
+    let line = RecordLine {
+        mark: "changed",
+        kind: report.first.plan().kind(place),
+        a: Some(report.first.site(place)),
+        b: Some(report.second.site(target)),
+        parts: parts_at(report.parts, place as usize),
+    };
+    lines::push_record(alloc, text, &line)
 }
 
 /// Appends the line of a record of the second sheet, if it is new.
@@ -210,32 +210,12 @@ fn push_added(
     requires { IsPlace report.now.second.accepted place }
     ensures { OnOk result (HasLines text.old.items text.new.items (listed_values report.now (added place ∷ []))) }
 {
-    let kind = plan_of(report.second).kind(place);
-    lines::push_added(alloc, text, kind, site_of(report.second, place))
-}
-
-/// The plan of a sheet.
-fn plan_of(sheet: &LocatedSheet) -> &Plan
-    ensures { result.now ≡ sheet.now.accepted }
-{
-    sheet.accepted.sound().plan()
-}
-
-/// Where a record of a sheet stands.
-fn site_of(sheet: &LocatedSheet, place: u32) -> &Site
-    requires all { HasSites sheet.now }
-    requires place { IsPlace sheet.now.accepted place }
-    ensures { result.now ≡ site_at sheet.now place }
-{
-    &sheet.sites.as_slice()[place as usize]
-}
-
-/// The parts in which a record differs.
-fn parts_of(parts: &[Parts], place: u32) -> Parts
-    ensures { result ≡ parts_at parts.now place }
-{
-    match parts.get(place as usize) {
-        Some(parts) => *parts,
-        None => NO_PARTS,
-    }
+    let line = RecordLine {
+        mark: "only_in_b",
+        kind: report.second.plan().kind(place),
+        a: None,
+        b: Some(report.second.site(place)),
+        parts: NO_PARTS,
+    };
+    lines::push_record(alloc, text, &line)
 }

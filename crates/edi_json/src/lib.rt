@@ -1,7 +1,6 @@
 //! What differs between two sheets, as lines of JSON (docs/JSON.md).
 #![tactic(auto)]
 
-pub mod counts;
 pub mod differences;
 pub mod known;
 pub mod lines;

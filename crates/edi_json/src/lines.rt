@@ -5,15 +5,13 @@ ghost use Rattle.json.specs.Lex.{tokens};
 ghost use Rattle.json.specs.Print.{print};
 ghost use Rattle.json.specs.Tree.{json_tokens};
 ghost use Rattle.edi_line.specs.Bytes.{line_feed};
-ghost use Rattle.edi_json.specs.Values.{added_value, changed_value, charsets_value, counts_value, gone_value};
-ghost use Rattle.edi_json.specs.inner.Lines.{HasLines};
+ghost use Rattle.edi_report.specs.Lines.{added_count, changed_count, gone_count};
+ghost use Rattle.edi_json.specs.Values.{charsets_value, counts_value};
+ghost use Rattle.edi_json.specs.inner.Lines.{HasLines, value_of_line};
 
-use crate::counts::Counts;
-use crate::members::{
-    begin, begin_record, end_record, put_bytes_or_null, put_null, put_number, put_site,
-};
+use crate::members::{begin, begin_record, end_record, put_bytes_or_null, put_number, put_site};
 use edi_record::Kind;
-use edi_report::{NO_PARTS, Parts, Site};
+use edi_report::{Parts, Reporter, Site};
 use json::Writer;
 use std::alloc::{AllocError, Global};
 use std::mem::replace;
@@ -37,91 +35,40 @@ pub fn end_line(text: &mut Vec<u8>, writer: Writer) -> Result<(), AllocError>
     Ok(())
 }
 
-/// Appends the line of a record that stands in the first sheet alone.
-pub(crate) fn push_gone(
+/// What the line of a record tells.
+#[derive(Drop)]
+pub(crate) struct RecordLine<'a> {
+    /// In which sheets it stands.
+    pub(crate) mark: &'a str,
+    pub(crate) kind: Kind,
+    /// Where it stands in the first sheet, and in the second.
+    pub(crate) a: Option<&'a Site>,
+    pub(crate) b: Option<&'a Site>,
+    /// The parts in which it differs.
+    pub(crate) parts: Parts,
+}
+
+/// Appends the line of a record.
+pub(crate) fn push_record(
     alloc: Global,
     text: &mut Vec<u8>,
-    kind: Kind,
-    site: &Site,
+    line: &RecordLine<'_>,
 ) -> Result<(), AllocError>
-    ensures { OnOk result (HasLines text.old.items text.new.items (gone_value kind site.now ∷ [])) }
+    ensures { OnOk result (HasLines text.old.items text.new.items (value_of_line line.now ∷ [])) }
 {
     let mut writer = begin_line(alloc, text);
-    write_gone(alloc, &mut writer, kind, site)?;
+    write_record(alloc, &mut writer, line)?;
     end_line(text, writer)
 }
 
-fn write_gone(alloc: Global, writer: &mut Writer, kind: Kind, site: &Site) -> Result<(), AllocError>
+fn write_record(alloc: Global, writer: &mut Writer, line: &RecordLine<'_>) -> Result<(), AllocError>
     ensures before { writer.new.before ≡ writer.old.before }
-    ensures tokens { OnOk result (writer.new.tokens ≡ writer.old.tokens ++ json_tokens (gone_value kind site.now)) }
+    ensures tokens { OnOk result (writer.new.tokens ≡ writer.old.tokens ++ json_tokens (value_of_line line.now)) }
 {
-    begin_record(alloc, writer, "only_in_a", kind)?;
-    put_site(alloc, writer, "a", site)?;
-    put_null(writer, "b")?;
-    end_record(writer, &NO_PARTS)
-}
-
-/// Appends the line of a record that stands in the second sheet alone.
-pub(crate) fn push_added(
-    alloc: Global,
-    text: &mut Vec<u8>,
-    kind: Kind,
-    site: &Site,
-) -> Result<(), AllocError>
-    ensures { OnOk result (HasLines text.old.items text.new.items (added_value kind site.now ∷ [])) }
-{
-    let mut writer = begin_line(alloc, text);
-    write_added(alloc, &mut writer, kind, site)?;
-    end_line(text, writer)
-}
-
-fn write_added(
-    alloc: Global,
-    writer: &mut Writer,
-    kind: Kind,
-    site: &Site,
-) -> Result<(), AllocError>
-    ensures before { writer.new.before ≡ writer.old.before }
-    ensures tokens { OnOk result (writer.new.tokens ≡ writer.old.tokens ++ json_tokens (added_value kind site.now)) }
-{
-    begin_record(alloc, writer, "only_in_b", kind)?;
-    put_null(writer, "a")?;
-    put_site(alloc, writer, "b", site)?;
-    end_record(writer, &NO_PARTS)
-}
-
-/// Appends the line of a record that changed.
-pub(crate) fn push_changed(
-    alloc: Global,
-    text: &mut Vec<u8>,
-    kind: Kind,
-    a: &Site,
-    b: &Site,
-    parts: &Parts,
-) -> Result<(), AllocError>
-    ensures { OnOk result (HasLines text.old.items text.new.items (changed_value kind a.now b.now parts.now ∷ [])) }
-{
-    let mut writer = begin_line(alloc, text);
-    write_changed(alloc, &mut writer, kind, a, b, parts)?;
-    end_line(text, writer)
-}
-
-fn write_changed(
-    alloc: Global,
-    writer: &mut Writer,
-    kind: Kind,
-    a: &Site,
-    b: &Site,
-    parts: &Parts,
-) -> Result<(), AllocError>
-    ensures before { writer.new.before ≡ writer.old.before }
-    ensures tokens { OnOk result (writer.new.tokens
-        ≡ writer.old.tokens ++ json_tokens (changed_value kind a.now b.now parts.now)) }
-{
-    begin_record(alloc, writer, "changed", kind)?;
-    put_site(alloc, writer, "a", a)?;
-    put_site(alloc, writer, "b", b)?;
-    end_record(writer, parts)
+    begin_record(alloc, writer, line.mark, line.kind)?;
+    put_site(alloc, writer, "a", line.a)?;
+    put_site(alloc, writer, "b", line.b)?;
+    end_record(writer, &line.parts)
 }
 
 /// Appends the line of two character sets.
@@ -159,24 +106,24 @@ fn write_charsets(
 pub(crate) fn push_counts(
     alloc: Global,
     text: &mut Vec<u8>,
-    counts: &Counts,
+    report: &Reporter<'_>,
 ) -> Result<(), AllocError>
     ensures { OnOk result (HasLines text.old.items text.new.items
-        (counts_value counts.now.gone counts.now.added counts.now.changed ∷ [])) }
+        (counts_value (gone_count report.now) (added_count report.now) (changed_count report.now) ∷ [])) }
 {
     let mut writer = begin_line(alloc, text);
-    write_counts(&mut writer, counts)?;
+    write_counts(&mut writer, report)?;
     end_line(text, writer)
 }
 
-fn write_counts(writer: &mut Writer, counts: &Counts) -> Result<(), AllocError>
+fn write_counts(writer: &mut Writer, report: &Reporter<'_>) -> Result<(), AllocError>
     ensures before { writer.new.before ≡ writer.old.before }
-    ensures tokens { OnOk result (writer.new.tokens
-        ≡ writer.old.tokens ++ json_tokens (counts_value counts.now.gone counts.now.added counts.now.changed)) }
+    ensures tokens { OnOk result (writer.new.tokens ≡ writer.old.tokens
+        ++ json_tokens (counts_value (gone_count report.now) (added_count report.now) (changed_count report.now))) }
 {
     begin(writer, "counts")?;
-    put_number(writer, "only_in_a", counts.gone as u64)?;
-    put_number(writer, "only_in_b", counts.added as u64)?;
-    put_number(writer, "changed", counts.changed as u64)?;
+    put_number(writer, "only_in_a", report.gone_count() as u64)?;
+    put_number(writer, "only_in_b", report.added_count() as u64)?;
+    put_number(writer, "changed", report.changed_count() as u64)?;
     writer.end_object()
 }

@@ -4,7 +4,7 @@ ghost use Rattle.std.specs.Prelude.{◌≡◌, ◌++◌, ◌∷◌, [], IfOk, On
 ghost use Rattle.json.specs.Json.{array, null, string};
 ghost use Rattle.json.specs.Token.{end_object};
 ghost use Rattle.edi_record.specs.Shapes.{kind_code};
-ghost use Rattle.edi_json.specs.Values.{characters, number_value, part_names, site_value, text_or_null, text_value};
+ghost use Rattle.edi_json.specs.Values.{characters, number_value, part_names, site_or_null, text_or_null, text_value};
 ghost use Rattle.edi_json.specs.Members.{member_tokens, opening_tokens};
 ghost use Rattle.edi_json.specs.inner.Tokens.{name_tokens, record_tokens};
 
@@ -105,17 +105,20 @@ fn put_type(alloc: Global, writer: &mut Writer, kind: Kind) -> Result<(), AllocE
     put_bytes(alloc, writer, "type", kind.code())
 }
 
-/// Appends a name, and where a record stands.
+/// Appends a name, and where a record stands, if it does.
 pub(crate) fn put_site(
     alloc: Global,
     writer: &mut Writer,
     name: &str,
-    site: &Site,
+    site: Option<&Site>,
 ) -> Result<(), AllocError>
     ensures before { writer.new.before ≡ writer.old.before }
     ensures tokens { OnOk result (writer.new.tokens
-        ≡ writer.old.tokens ++ member_tokens name.now (site_value site.now)) }
+        ≡ writer.old.tokens ++ member_tokens name.now (site_or_null (option_copied site.entry))) }
 {
+    let Some(site) = site else {
+        return put_null(writer, name);
+    };
     writer.key(name)?;
     writer.begin_object()?;
     put_identifier(alloc, writer, site)?;

@@ -1,5 +1,5 @@
 -- Known sheets have their pictures.
-use Rattle.std.proofs.Common.{◌≡◌, ℕ, List, [], ◌∷◌, ◌++◌, Bool, true, T, ℤ, pos, Some, None, Contains, refl, sym, subst, lit<, lit≤}
+use Rattle.std.proofs.Common.{◌≡◌, ℕ, List, [], ◌∷◌, Bool, true, T, ℤ, pos, Some, None, Contains, refl, sym, subst, lit<, lit≤}
 use Rattle.std.specs.Fmt.{digits}
 use Rattle.std.specs.Int.Signed.{◌≤ℤ◌, le_z, le_z_yes}
 use Rattle.std.specs.List.{list_all}

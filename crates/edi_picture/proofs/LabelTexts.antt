@@ -1,5 +1,5 @@
 -- What is written on a face that has a label.
-use Rattle.std.proofs.Common.{◌≡◌, ℕ, Bool, true, false, not, List, sym, ap, ◌∙◌, if◌then◌else◌, refl}
+use Rattle.std.proofs.Common.{◌≡◌, ℕ, Bool, true, List, sym, ◌∙◌, refl}
 use Rattle.edi_record.specs.declared.record.Point.{Point}
 use Rattle.edi_plan.specs.declared.extent.Extent.{Extent}
 use Rattle.edi_picture.specs.Labels.{has_label, label_amid, label_text, points_round}

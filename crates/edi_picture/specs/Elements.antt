@@ -1,7 +1,8 @@
 -- What is drawn of the records of a sheet.
-use Rattle.std.specs.Prelude.{ℕ, Bool, List, [], ◌++◌, if◌then◌else◌, codes}
+use Rattle.std.specs.Prelude.{ℕ, List, [], ◌++◌, if◌then◌else◌, codes}
 use Rattle.std.specs.List.{flat_map}
 use Rattle.edi_line.specs.Number.{size_text}
+use Rattle.edi_record.specs.declared.record.Kind.{Kind}
 use Rattle.edi_record.specs.declared.record.Kind.TheVariants.{Pno, Par}
 use Rattle.edi_record.specs.declared.record.Point.{Point}
 use Rattle.edi_schema.specs.Classes.{Classes}
@@ -35,14 +36,6 @@ abbrev pub arc_element : Classes → Extent → Sheet → ℕ → List ℕ
 arc_element s f sheet k =
     codes "<polyline points='" ++ spots_text f sheet k ++ codes "'>" ++ title_text s sheet k [] ++ codes "</polyline>\n"
 
--- what is drawn of an arc in an ink
-abbrev pub arc_text : Classes → Extent → Ink → Sheet → ℕ → List ℕ
-arc_text s f ink sheet k = if is_drawn_in ink (mark_at sheet k) then arc_element s f sheet k else []
-
--- the arcs of a sheet, in file order
-abbrev pub arcs_of : Classes → Extent → Ink → Sheet → List ℕ
-arcs_of s f ink sheet = flat_map (arc_text s f ink sheet) (places_of Par sheet.plan)
-
 -- ---- nodes
 
 -- the middle of a dot, and how large it is
@@ -60,12 +53,18 @@ dot_element s f ink sheet k q =
 abbrev pub dot_text : Classes → Extent → Ink → Sheet → ℕ → Point → List ℕ
 dot_text s f ink sheet k q = if is_outside f q then [] else dot_element s f ink sheet k q
 
--- what is drawn of a node in an ink
-abbrev pub node_text : Classes → Extent → Ink → Sheet → ℕ → List ℕ
-node_text s f ink sheet k =
-    if is_drawn_in ink (mark_at sheet k)
-    then flat_map (dot_text s f ink sheet k) (record_at sheet.plan k).points else []
+-- ---- records of a type
 
--- the nodes of a sheet, in file order
-abbrev pub nodes_of : Classes → Extent → Ink → Sheet → List ℕ
-nodes_of s f ink sheet = flat_map (node_text s f ink sheet) (places_of Pno sheet.plan)
+-- an arc as a line, a node as its dots
+abbrev pub element : Kind → Classes → Extent → Ink → Sheet → ℕ → List ℕ
+element Par s f ink sheet k = arc_element s f sheet k
+element Pno s f ink sheet k = flat_map (dot_text s f ink sheet k) (record_at sheet.plan k).points
+element _ s f ink sheet k = []
+
+-- what is drawn of a record in an ink
+abbrev pub record_text : Kind → Classes → Extent → Ink → Sheet → ℕ → List ℕ
+record_text kind s f ink sheet k = if is_drawn_in ink (mark_at sheet k) then element kind s f ink sheet k else []
+
+-- the records of a type of a sheet, in file order
+abbrev pub records_of : Kind → Classes → Extent → Ink → Sheet → List ℕ
+records_of kind s f ink sheet = flat_map (record_text kind s f ink sheet) (places_of kind sheet.plan)

@@ -140,22 +140,27 @@ nodes_of_b = record {
   labels = [];
 }
 
--- their picture
-abbrev pub picture_of_nodes : List ℕ
-picture_of_nodes = codes "<svg xmlns='http://www.w3.org/2000/svg' font-family='sans-serif' font-size='14' viewBox='0 0"
-    ++ codes " 1000 544'>\n"
-    ++ codes "<rect width='1000' height='544' fill='white'/>\n"
+-- the page of two sheets down to its bar, with its height, the line of the second sheet, and how long the bar is
+abbrev pub top_of_two : List ℕ → List ℕ → List ℕ → List ℕ
+top_of_two height second bar =
+    codes "<svg xmlns='http://www.w3.org/2000/svg' font-family='sans-serif' font-size='14' viewBox='0 0 1000 "
+    ++ height ++ codes "'>\n"
+    ++ codes "<rect width='1000' height='" ++ height ++ codes "' fill='white'/>\n"
     ++ codes "<path fill='none' stroke-width='2' d='M20,20h30' stroke='#D55E00' stroke-dasharray='6'/>\n"
     ++ codes "<text x='60' y='25'>A: a.vec, records only here: 1</text>\n"
     ++ codes "<path fill='none' stroke-width='2' d='M20,40h30' stroke='#0072B2'/>\n"
-    ++ codes "<text x='60' y='45'>B: b&lt;2&gt;.vec, records only here: 2</text>\n"
+    ++ codes "<text x='60' y='45'>B: " ++ second ++ codes "</text>\n"
     ++ codes "<path fill='none' stroke-width='2' d='M20,60h30' stroke='#777777'/>\n"
     ++ codes "<text x='60' y='65'>records changed: 1; grey: the same in both</text>\n"
     ++ codes "<rect x='20' y='73' width='30' height='14' fill='#F0E442' fill-opacity='0.5'/>\n"
     ++ codes "<text x='60' y='85'>an outline, an object or a link changed</text>\n"
     ++ codes "<path fill='none' stroke='black' stroke-width='2' d='M970,30v-22m-5,8l5,-8l5,8'/>\n"
     ++ codes "<text x='965' y='46'>N</text>\n"
-    ++ codes "<text x='20' y='110'>10 unit(s)</text>\n"
+    ++ codes "<text x='20' y='110'>" ++ bar ++ codes " unit(s)</text>\n"
+
+-- their picture
+abbrev pub picture_of_nodes : List ℕ
+picture_of_nodes = top_of_two (codes "544") (codes "b&lt;2&gt;.vec, records only here: 2") (codes "10")
     ++ codes "<svg x='20' y='118' width='960' height='384' overflow='visible' preserveAspectRatio='xMinYMin'"
     ++ codes " viewBox='0 0 20 8'>\n"
     ++ codes "<path fill='none' stroke='black' stroke-width='0.062502' d='M0,0h10'/>\n"
@@ -227,20 +232,7 @@ faces_of_b = record {
 
 -- their picture
 abbrev pub picture_of_faces : List ℕ
-picture_of_faces = codes "<svg xmlns='http://www.w3.org/2000/svg' font-family='sans-serif' font-size='14' viewBox='0 0"
-    ++ codes " 1000 640'>\n"
-    ++ codes "<rect width='1000' height='640' fill='white'/>\n"
-    ++ codes "<path fill='none' stroke-width='2' d='M20,20h30' stroke='#D55E00' stroke-dasharray='6'/>\n"
-    ++ codes "<text x='60' y='25'>A: a.vec, records only here: 1</text>\n"
-    ++ codes "<path fill='none' stroke-width='2' d='M20,40h30' stroke='#0072B2'/>\n"
-    ++ codes "<text x='60' y='45'>B: b.vec, records only here: 0</text>\n"
-    ++ codes "<path fill='none' stroke-width='2' d='M20,60h30' stroke='#777777'/>\n"
-    ++ codes "<text x='60' y='65'>records changed: 1; grey: the same in both</text>\n"
-    ++ codes "<rect x='20' y='73' width='30' height='14' fill='#F0E442' fill-opacity='0.5'/>\n"
-    ++ codes "<text x='60' y='85'>an outline, an object or a link changed</text>\n"
-    ++ codes "<path fill='none' stroke='black' stroke-width='2' d='M970,30v-22m-5,8l5,-8l5,8'/>\n"
-    ++ codes "<text x='965' y='46'>N</text>\n"
-    ++ codes "<text x='20' y='110'>1 unit(s)</text>\n"
+picture_of_faces = top_of_two (codes "640") (codes "b.vec, records only here: 0") (codes "1")
     ++ codes "<svg x='20' y='118' width='960' height='480' overflow='visible' preserveAspectRatio='xMinYMin'"
     ++ codes " viewBox='0 0 8 4'>\n"
     ++ codes "<path fill='none' stroke='black' stroke-width='0.025002' d='M0,0h1'/>\n"

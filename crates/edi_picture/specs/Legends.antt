@@ -1,5 +1,5 @@
 -- What stands round the plan.
-use Rattle.std.specs.Prelude.{ℕ, ◌+◌, ◌&&◌, Bool, not, List, [], ◌∷◌, ◌++◌, Option, Some, None, count_by, codes, decimal, filter}
+use Rattle.std.specs.Prelude.{ℕ, ◌+◌, ◌&&◌, Bool, not, List, [], ◌∷◌, ◌++◌, count_by, codes, decimal, filter}
 use Rattle.std.specs.List.{flat_map, list_any}
 use Rattle.edi_line.specs.Number.{size_text}
 use Rattle.edi_record.specs.declared.record.Kind.TheVariants.{Pno}

@@ -78,7 +78,7 @@ impl<'a> Canvas<'a> {
     ghost use Rattle.std.specs.List.{flat_map};
     ghost use Rattle.edi_plan.specs.Agreeing.{HasClasses};
     ghost use Rattle.edi_plan.specs.Plans.{IsPlace, record_at};
-    ghost use Rattle.edi_picture.specs.Elements.{arc_element, arc_text, arcs_of, dot_element, dot_text, node_text, nodes_of, spots_text};
+    ghost use Rattle.edi_picture.specs.Elements.{arc_element, dot_element, dot_text, record_text, records_of, spots_text};
     ghost use Rattle.edi_picture.specs.Titles.{title_text};
 
     /// Appends the points of a record.
@@ -109,26 +109,6 @@ impl<'a> Canvas<'a> {
         put(text, b"'>")?;
         push_title(text, self.schema, sheet, place, b"")?;
         put(text, b"</polyline>\n")
-    }
-
-    /// Appends an arc, if it is drawn in an ink.
-    fn push_arc(
-        &self,
-        text: &mut Vec<u8>,
-        ink: Ink,
-        sheet: &Shown<'_>,
-        place: u32,
-    ) -> Result<(), AllocError>
-        requires classes { HasClasses self.now.schema.now sheet.now.plan }
-        requires place { IsPlace sheet.now.plan place }
-        ensures { OnOk result (text.new.items
-            ≡ text.old.items ++ arc_text self.now.schema.now self.now.frame ink sheet.now place) }
-    {
-        if sheet.mark(place).is_drawn_in(ink) {
-            self.push_line(text, sheet, place)
-        } else {
-            Ok(())
-        }
     }
 
     /// Appends a dot at a point of a node, if it lies in the frame.
@@ -174,10 +154,11 @@ impl<'a> Canvas<'a> {
         Ok(())
     }
 
-    /// Appends a node, if it is drawn in an ink.
-    fn push_node(
+    /// Appends a record of a type, if it is drawn in an ink.
+    fn push_record(
         &self,
         text: &mut Vec<u8>,
+        kind: Kind,
         ink: Ink,
         sheet: &Shown<'_>,
         place: u32,
@@ -185,45 +166,33 @@ impl<'a> Canvas<'a> {
         requires classes { HasClasses self.now.schema.now sheet.now.plan }
         requires place { IsPlace sheet.now.plan place }
         ensures { OnOk result (text.new.items
-            ≡ text.old.items ++ node_text self.now.schema.now self.now.frame ink sheet.now place) }
+            ≡ text.old.items ++ record_text kind self.now.schema.now self.now.frame ink sheet.now place) }
     {
         if sheet.mark(place).is_drawn_in(ink) {
-            self.push_dots(text, ink, sheet, place)
+            match kind {
+                Kind::Par => self.push_line(text, sheet, place),
+                Kind::Pno => self.push_dots(text, ink, sheet, place),
+                Kind::Pfe | Kind::Fea | Kind::Lnk => Ok(()),
+            }
         } else {
             Ok(())
         }
     }
 
-    /// Appends the arcs of the sheet that are drawn in an ink.
-    pub(crate) fn push_arcs(
+    /// Appends the records of a type of the sheet that are drawn in an ink.
+    pub(crate) fn push_records(
         &self,
         text: &mut Vec<u8>,
+        kind: Kind,
         ink: Ink,
         sheet: &Shown<'_>,
     ) -> Result<(), AllocError>
         requires { HasClasses self.now.schema.now sheet.now.plan }
         ensures { OnOk result (text.new.items
-            ≡ text.old.items ++ arcs_of self.now.schema.now self.now.frame ink sheet.now) }
+            ≡ text.old.items ++ records_of kind self.now.schema.now self.now.frame ink sheet.now) }
     {
-        for place in sheet.plan().places(Kind::Par) {
-            self.push_arc(text, ink, sheet, *place)?;
-        }
-        Ok(())
-    }
-
-    /// Appends the nodes of the sheet that are drawn in an ink.
-    pub(crate) fn push_nodes(
-        &self,
-        text: &mut Vec<u8>,
-        ink: Ink,
-        sheet: &Shown<'_>,
-    ) -> Result<(), AllocError>
-        requires { HasClasses self.now.schema.now sheet.now.plan }
-        ensures { OnOk result (text.new.items
-            ≡ text.old.items ++ nodes_of self.now.schema.now self.now.frame ink sheet.now) }
-    {
-        for place in sheet.plan().places(Kind::Pno) {
-            self.push_node(text, ink, sheet, *place)?;
+        for place in sheet.plan().places(kind) {
+            self.push_record(text, kind, ink, sheet, *place)?;
         }
         Ok(())
     }

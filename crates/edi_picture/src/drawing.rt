@@ -85,16 +85,6 @@ fn page_with_frame(
     Ok(text)
 }
 
-/// A page without one.
-fn page_without_frame(alloc: Global, sheets: &[Shown<'_>]) -> Result<Vec<u8>, AllocError>
-    ensures { IfOk result (λ text. text.items ≡ page_top sheets.now (legend_height sheets.now) ++ tail_text) }
-{
-    let mut text = Vec::new(alloc);
-    push_page_top(alloc, &mut text, sheets, legend_height(sheets))?;
-    put(&mut text, b"</svg>\n")?;
-    Ok(text)
-}
-
 /// The picture of some sheets, as the text of an SVG file (docs/FORMAT.md, "Pictures"): of one sheet, or of two of
 /// which the second shows what the first doesn't. Points are written in units of the file, as exact decimals. The only
 /// error is a lack of memory.
@@ -102,8 +92,11 @@ pub fn picture(alloc: Global, schema: &Schema, sheets: &[Shown<'_>]) -> Result<V
     requires { AllHaveClasses schema.now sheets.now }
     ensures { IfOk result (λ text. IsPicture schema.now sheets.now text.items) }
 {
-    match frame_of(sheets) {
-        Some(frame) => page_with_frame(alloc, &Canvas { schema, frame }, sheets),
-        None => page_without_frame(alloc, sheets),
+    if let Some(frame) = frame_of(sheets) {
+        return page_with_frame(alloc, &Canvas { schema, frame }, sheets);
     }
+    let mut text = Vec::new(alloc);
+    push_page_top(alloc, &mut text, sheets, legend_height(sheets))?;
+    put(&mut text, b"</svg>\n")?;
+    Ok(text)
 }

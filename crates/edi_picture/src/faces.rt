@@ -5,7 +5,7 @@ ghost use Rattle.std.specs.List.{All, flat_map};
 ghost use Rattle.edi_plan.specs.Agreeing.{HasClasses};
 ghost use Rattle.edi_plan.specs.Plans.{IsPlace};
 ghost use Rattle.edi_picture.specs.inner.Rounds.{AreRounds};
-ghost use Rattle.edi_picture.specs.Faces.{arcs_round, band_text, bands, bands_begin, closed_face, face_by_ends, face_end, face_text, faces_of, fan_text, fill_text, open_face};
+ghost use Rattle.edi_picture.specs.Faces.{arcs_round, band_text, bands, bands_begin, closed_face, face_by_ends, face_end, face_text, faces_of, fan_text, fill_text};
 
 use crate::canvas::{Canvas, push_pixels, push_spot};
 use crate::ends::{closes, ends_of_arcs};
@@ -161,28 +161,7 @@ fn push_bands(
     push_face_end(canvas, text, sheet, face, words)
 }
 
-/// Appends a face with these arcs round it, which don't close, if it is tinted.
-fn push_open(
-    canvas: &Canvas<'_>,
-    text: &mut Vec<u8>,
-    sheet: &Shown<'_>,
-    face: u32,
-    arcs: &[u32],
-) -> Result<(), AllocError>
-    requires classes { HasClasses canvas.now.schema.now sheet.now.plan }
-    requires place { IsPlace sheet.now.plan face }
-    requires arcs { All (IsPlace sheet.now.plan) arcs.now }
-    ensures { OnOk result (text.new.items
-        ≡ text.old.items ++ open_face canvas.now.schema.now canvas.now.frame sheet.now face arcs.now) }
-{
-    if sheet.is_tinted(face) {
-        push_bands(canvas, text, sheet, face, arcs)
-    } else {
-        Ok(())
-    }
-}
-
-/// Appends a face by the ends of the arcs round it.
+/// Appends a face by the ends of the arcs round it: one that doesn't close only if it is tinted.
 fn push_by_ends(
     alloc: Global,
     canvas: &Canvas<'_>,
@@ -203,8 +182,10 @@ fn push_by_ends(
     };
     if closes(alloc, ends)? {
         push_closed(canvas, text, sheet, face, base, arcs)
+    } else if sheet.is_tinted(face) {
+        push_bands(canvas, text, sheet, face, arcs)
     } else {
-        push_open(canvas, text, sheet, face, arcs)
+        Ok(())
     }
 }
 

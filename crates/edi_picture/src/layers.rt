@@ -2,7 +2,7 @@
 
 ghost use Rattle.std.specs.Prelude.{◌≡◌, ◌≤◌, ◌++◌, OnOk};
 ghost use Rattle.std.specs.List.{flat_map};
-ghost use Rattle.edi_picture.specs.Elements.{arcs_of, nodes_of};
+ghost use Rattle.edi_picture.specs.Elements.{records_of};
 ghost use Rattle.edi_picture.specs.Faces.{faces_of};
 ghost use Rattle.edi_picture.specs.Labels.{labels_of};
 ghost use Rattle.edi_picture.specs.Pictures.{all_arcs, all_nodes, arcs_begin, arcs_text, dashes, faces_text, labels_text, layers, nodes_begin, nodes_text, plan_text, rim_text};
@@ -17,6 +17,7 @@ use crate::mark::Ink;
 use crate::shown::Shown;
 use crate::writing::put;
 use edi_plan::Extent;
+use edi_record::Kind;
 use std::alloc::{AllocError, Global};
 
 /// Appends the faces of all sheets.
@@ -36,36 +37,20 @@ fn push_all_faces(
     Ok(())
 }
 
-/// Appends the arcs of all sheets that are drawn in an ink.
-fn push_all_arcs(
+/// Appends the records of a type of all sheets that are drawn in an ink.
+fn push_all_records(
     canvas: &Canvas<'_>,
     text: &mut Vec<u8>,
     sheets: &[Shown<'_>],
+    kind: Kind,
     ink: Ink,
 ) -> Result<(), AllocError>
     requires { AllHaveClasses canvas.now.schema.now sheets.now }
     ensures { OnOk result (text.new.items
-        ≡ text.old.items ++ flat_map (arcs_of canvas.now.schema.now canvas.now.frame ink) sheets.now) }
+        ≡ text.old.items ++ flat_map (records_of kind canvas.now.schema.now canvas.now.frame ink) sheets.now) }
 {
     for sheet in sheets {
-        canvas.push_arcs(text, ink, sheet)?;
-    }
-    Ok(())
-}
-
-/// Appends the nodes of all sheets that are drawn in an ink.
-fn push_all_nodes(
-    canvas: &Canvas<'_>,
-    text: &mut Vec<u8>,
-    sheets: &[Shown<'_>],
-    ink: Ink,
-) -> Result<(), AllocError>
-    requires { AllHaveClasses canvas.now.schema.now sheets.now }
-    ensures { OnOk result (text.new.items
-        ≡ text.old.items ++ flat_map (nodes_of canvas.now.schema.now canvas.now.frame ink) sheets.now) }
-{
-    for sheet in sheets {
-        canvas.push_nodes(text, ink, sheet)?;
+        canvas.push_records(text, kind, ink, sheet)?;
     }
     Ok(())
 }
@@ -131,7 +116,7 @@ fn push_arc_layer(
 {
     push_arcs_begin(text, &canvas.frame, ink)?;
     push_dashes(text, &canvas.frame, ink)?;
-    push_all_arcs(canvas, text, sheets, ink)?;
+    push_all_records(canvas, text, sheets, Kind::Par, ink)?;
     put(text, b"</g>\n")
 }
 
@@ -167,7 +152,7 @@ fn push_node_layer(
 {
     push_nodes_begin(text, ink)?;
     push_rim(text, &canvas.frame)?;
-    push_all_nodes(canvas, text, sheets, ink)?;
+    push_all_records(canvas, text, sheets, Kind::Pno, ink)?;
     put(text, b"</g>\n")
 }
 

@@ -93,24 +93,6 @@ fn push_sheet_words(
     push_number(words, count as u64)
 }
 
-/// The words for the first of two sheets.
-fn first_words(alloc: Global, sheet: &Shown<'_>) -> Result<Vec<u8>, AllocError>
-    ensures { IfOk result (λ words. words.items ≡ first_words sheet.now) }
-{
-    let mut words = Vec::new(alloc);
-    push_sheet_words(&mut words, b"A: ", sheet, sheet.count(Mark::OnlyFirst))?;
-    Ok(words)
-}
-
-/// The words for the second.
-fn second_words(alloc: Global, sheet: &Shown<'_>) -> Result<Vec<u8>, AllocError>
-    ensures { IfOk result (λ words. words.items ≡ second_words sheet.now) }
-{
-    let mut words = Vec::new(alloc);
-    push_sheet_words(&mut words, b"B: ", sheet, sheet.count(Mark::OnlySecond))?;
-    Ok(words)
-}
-
 /// How many records changed, in words.
 fn changed_words(alloc: Global, sheet: &Shown<'_>) -> Result<Vec<u8>, AllocError>
     ensures { IfOk result (λ words. words.items ≡ changed_words sheet.now) }
@@ -140,7 +122,8 @@ fn push_tint_row(text: &mut Vec<u8>) -> Result<(), AllocError>
 fn push_first_row(alloc: Global, text: &mut Vec<u8>, sheet: &Shown<'_>) -> Result<(), AllocError>
     ensures { OnOk result (text.new.items ≡ text.old.items ++ legend_row 20 Old (first_words sheet.now)) }
 {
-    let words = first_words(alloc, sheet)?;
+    let mut words = Vec::new(alloc);
+    push_sheet_words(&mut words, b"A: ", sheet, sheet.count(Mark::OnlyFirst))?;
     push_row(text, 20, Ink::Old, &words)
 }
 
@@ -148,7 +131,8 @@ fn push_first_row(alloc: Global, text: &mut Vec<u8>, sheet: &Shown<'_>) -> Resul
 fn push_second_row(alloc: Global, text: &mut Vec<u8>, sheet: &Shown<'_>) -> Result<(), AllocError>
     ensures { OnOk result (text.new.items ≡ text.old.items ++ legend_row 40 New (second_words sheet.now)) }
 {
-    let words = second_words(alloc, sheet)?;
+    let mut words = Vec::new(alloc);
+    push_sheet_words(&mut words, b"B: ", sheet, sheet.count(Mark::OnlySecond))?;
     push_row(text, 40, Ink::New, &words)
 }
 

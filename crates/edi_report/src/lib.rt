@@ -12,7 +12,7 @@ pub mod sheet;
 pub mod site;
 
 pub use marks::marks_of;
-pub use parts::{NO_PARTS, Parts};
+pub use parts::{NO_PARTS, Parts, parts_at};
 pub use report::Reporter;
 pub use sheet::{LocatedSheet, locate_both, locate_from};
 pub use site::Site;

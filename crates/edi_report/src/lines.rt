@@ -2,7 +2,7 @@
 
 ghost use Rattle.std.specs.Prelude.{◌≡◌, ◌++◌, ◌<◌, OnOk, codes, length, option_copied};
 ghost use Rattle.edi_plan.specs.Plans.{IsPlace};
-ghost use Rattle.edi_report.specs.Lines.{both_lines, charset_change, charset_change_line, counted, lone_line, parts_text, record_name_text, some_differ, word_if, words_text};
+ghost use Rattle.edi_report.specs.Lines.{both_lines, charset_change, charset_change_line, counted, lone_line, parts_text, record_name_text, word_if, words_text};
 ghost use Rattle.edi_report.specs.Reports.{HasSites};
 ghost use Rattle.edi_shown.specs.Shown.{shown_bytes};
 
@@ -22,11 +22,9 @@ pub(crate) fn push_name(
     requires place { IsPlace sheet.now.accepted place }
     ensures { OnOk result (text.new.items ≡ text.old.items ++ record_name_text sheet.now place) }
 {
-    let kind = sheet.accepted.sound().plan().kind(place);
-    let site = &sheet.sites.as_slice()[place as usize];
-    text.extend_from_slice(kind.code())?;
+    text.extend_from_slice(sheet.plan().kind(place).code())?;
     text.push(b' ')?;
-    push_shown(text, site.rid.as_slice())
+    push_shown(text, sheet.site(place).rid.as_slice())
 }
 
 /// Appends the line of a record that stands in this sheet alone.
@@ -43,7 +41,7 @@ pub(crate) fn push_lone(
     text.extend_from_slice(sign)?;
     push_name(text, sheet, place)?;
     text.extend_from_slice(b" (line ")?;
-    push_number(text, sheet.sites.as_slice()[place as usize].line)?;
+    push_number(text, sheet.site(place).line)?;
     text.extend_from_slice(b")\n")
 }
 
@@ -56,13 +54,6 @@ fn push_word(text: &mut Vec<u8>, said: bool, word: &[u8]) -> Result<(), AllocErr
     } else {
         Ok(())
     }
-}
-
-/// Whether some part differs.
-fn some_differ(parts: &Parts) -> bool
-    ensures { result ≡ some_differ parts.now }
-{
-    parts.class || parts.attributes || parts.extras || parts.points || parts.ends
 }
 
 /// Appends the words for the parts that differ.
@@ -80,7 +71,7 @@ pub fn push_words(text: &mut Vec<u8>, parts: &Parts) -> Result<(), AllocError>
 pub(crate) fn push_parts(text: &mut Vec<u8>, parts: &Parts) -> Result<(), AllocError>
     ensures { OnOk result (text.new.items ≡ text.old.items ++ parts_text parts.now) }
 {
-    if some_differ(parts) {
+    if parts.some_differ() {
         push_words(text, parts)
     } else {
         text.extend_from_slice(b" linked records")

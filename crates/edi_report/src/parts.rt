@@ -1,3 +1,7 @@
+ghost use Rattle.std.specs.Prelude.{◌≡◌};
+ghost use Rattle.edi_report.specs.Reports.{parts_at};
+ghost use Rattle.edi_report.specs.Lines.{some_differ};
+
 /// The parts in which a record and the one that it became differ.
 #[derive(Clone, Copy, PartialEq, Eq)]
 pub struct Parts {
@@ -21,3 +25,22 @@ pub const NO_PARTS: Parts = Parts {
     points: false,
     ends: false,
 };
+
+impl Parts {
+    /// Whether some part differs.
+    pub fn some_differ(&self) -> bool
+        ensures { result ≡ some_differ self.now }
+    {
+        self.class || self.attributes || self.extras || self.points || self.ends
+    }
+}
+
+/// The parts of the record at a place, of which none differs where none are given.
+pub fn parts_at(parts: &[Parts], place: usize) -> Parts
+    ensures { result ≡ parts_at parts.now place }
+{
+    match parts.get(place) {
+        Some(parts) => *parts,
+        None => NO_PARTS,
+    }
+}

@@ -3,12 +3,11 @@
 ghost use Rattle.std.specs.Prelude.{◌≡◌, ◌++◌, ◌<◌, IfOk, OnOk, count_by, length, not};
 ghost use Rattle.edi_plan.specs.Plans.{IsPlace};
 ghost use Rattle.edi_report.specs.Lines.{added_count, brief_text, changed_count, changed_line, changed_names, charsets_line, first_line, gone_count, lines_of, lines_of_first, lines_of_second, report_text, second_line, text_of_report, totals_line};
-ghost use Rattle.edi_report.specs.Reports.{parts_at};
 
 use crate::lines::{
     push_both_lines, push_charset, push_counted, push_lone, push_name, push_other, push_parts,
 };
-use crate::parts::{NO_PARTS, Parts};
+use crate::parts::{Parts, parts_at};
 use crate::sheet::LocatedSheet;
 use edi_record::Kind;
 use std::alloc::{AllocError, Global};
@@ -95,9 +94,7 @@ impl<'a> Reporter<'a> {
     pub fn push_charsets(&self, text: &mut Vec<u8>) -> Result<(), AllocError>
         ensures { OnOk result (text.new.items ≡ text.old.items ++ charsets_line self.now) }
     {
-        let plan = self.first.accepted.sound().plan();
-        let other = self.second.accepted.sound().plan();
-        push_charset(text, plan.cse(), other.cse())
+        push_charset(text, self.first.plan().cse(), self.second.plan().cse())
     }
 
     /// Appends the lines of the records of a type.
@@ -148,11 +145,11 @@ impl<'a> Reporter<'a> {
         requires target { IsPlace self.now.second.accepted target }
         ensures { OnOk result (text.new.items ≡ text.old.items ++ changed_line self.now place target) }
     {
-        let here = &self.first.sites.as_slice()[place as usize];
-        let there = &self.second.sites.as_slice()[target as usize];
+        let here = self.first.site(place);
+        let there = self.second.site(target);
         self.push_names(text, place, there.rid.as_slice())?;
         push_both_lines(text, here.line, there.line)?;
-        push_parts(text, &self.parts_of(place))?;
+        push_parts(text, &parts_at(self.parts, place as usize))?;
         text.extend_from_slice(b"\n")
     }
 
@@ -164,16 +161,6 @@ impl<'a> Reporter<'a> {
         text.extend_from_slice(b"~ ")?;
         push_name(text, self.first, place)?;
         push_other(text, other)
-    }
-
-    /// The parts in which a record that changed differs.
-    fn parts_of(&self, place: u32) -> Parts
-        ensures { result ≡ parts_at self.now.parts place }
-    {
-        match self.parts.get(place as usize) {
-            Some(parts) => *parts,
-            None => NO_PARTS,
-        }
     }
 
     /// Appends the line of a record of the second sheet.
@@ -198,19 +185,22 @@ impl<'a> Reporter<'a> {
         Ok(())
     }
 
-    fn gone_count(&self) -> usize
+    /// How many records of the first sheet are and became none of the second.
+    pub fn gone_count(&self) -> usize
         ensures { result ≡ gone_count self.now }
     {
         self.became.iter().filter(|went| went.is_none()).count()
     }
 
-    fn added_count(&self) -> usize
+    /// How many records of the second sheet are and were none of the first.
+    pub fn added_count(&self) -> usize
         ensures { result ≡ added_count self.now }
     {
         unmarked_count(self.reached)
     }
 
-    fn changed_count(&self) -> usize
+    /// How many records of the first sheet became others of the second.
+    pub fn changed_count(&self) -> usize
         ensures { result ≡ changed_count self.now }
     {
         self.unchanged

@@ -7,8 +7,9 @@ ghost use Rattle.edi_compare.specs.PlanOfFile.{IsPlanOfFile};
 ghost use Rattle.edi_compare.specs.Refused.{IsPairRefusal, IsRefusal};
 ghost use Rattle.edi_compare.specs.Rules.{IsAccepted};
 ghost use Rattle.edi_plan.specs.Places.{places_of};
+ghost use Rattle.edi_plan.specs.Plans.{IsPlace};
 ghost use Rattle.edi_report.specs.Located.{IsLocatedSheet};
-ghost use Rattle.edi_report.specs.Reports.{HasSites};
+ghost use Rattle.edi_report.specs.Reports.{HasSites, site_at};
 ghost use Rattle.edi_report.specs.Sites.{AreSitesOf};
 ghost use Rattle.edi_report.specs.inner.Sheets.{IsPackedSheet, IsUnpacked};
 
@@ -16,6 +17,7 @@ use crate::packed::PackedSites;
 use crate::site::Site;
 use edi_compare::{Accepted, CompareFault, Fault, accept_with, first_refused, second_refused};
 use edi_line::{FileBytes, Sequence};
+use edi_plan::Plan;
 use edi_record::Kind;
 use edi_schema::Schema;
 use std::alloc::{AllocError, Global};
@@ -38,11 +40,27 @@ impl Drop for LocatedSheet {
 }
 
 impl LocatedSheet {
+    /// Its plan.
+    pub fn plan(&self) -> &Plan
+        ensures { result.now ≡ self.now.accepted }
+    {
+        self.accepted.sound().plan()
+    }
+
     /// The places of the records of a type, in file order.
-    pub(crate) fn places(&self, kind: Kind) -> &[u32]
+    pub fn places(&self, kind: Kind) -> &[u32]
         ensures { result.now ≡ places_of kind self.now.accepted }
     {
-        self.accepted.sound().plan().places(kind)
+        self.plan().places(kind)
+    }
+
+    /// Where a record stands.
+    pub fn site(&self, place: u32) -> &Site
+        requires all { HasSites self.now }
+        requires place { IsPlace self.now.accepted place }
+        ensures { result.now ≡ site_at self.now place }
+    {
+        &self.sites.as_slice()[place as usize]
     }
 }
 

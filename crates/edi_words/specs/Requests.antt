@@ -24,36 +24,13 @@ use Rattle.edi_words.specs.declared.words.ManyFiles.{ManyFiles}
 use Rattle.edi_words.specs.declared.words.PairFiles.{PairFiles}
 use Rattle.edi_words.specs.declared.words.SheetFiles.{SheetFiles}
 
--- the option with the codes, which has one value
-abbrev pub kinds_rule : Rule
-kinds_rule = record (new_rule (codes "kinds")) { long = Some (codes "kinds"); value_names = 1 }
+-- an option, which has one value
+abbrev pub option_rule : Text → Rule
+option_rule id = record (new_rule id) { long = Some id; value_names = 1 }
 
--- an option with a file that something goes to, which has one value
-abbrev pub file_option_rule : Text → Rule
-file_option_rule id = record (new_rule id) { long = Some id; value_names = 1 }
-
--- the option with the file that a pairing goes to, and that with the file that a picture goes to
-abbrev pub pairing_rule : Rule
-pairing_rule = file_option_rule (codes "pairing")
-
-abbrev pub picture_rule : Rule
-picture_rule = file_option_rule (codes "picture")
-
--- the flag for the short text of what differs, which has no value
-abbrev pub brief_rule : Rule
-brief_rule = record (new_rule (codes "brief")) { long = Some (codes "brief"); action = Some SetTrue }
-
--- the flag for the text record by record
-abbrev pub records_rule : Rule
-records_rule = record (new_rule (codes "records")) { long = Some (codes "records"); action = Some SetTrue }
-
--- the flag for lines of JSON
-abbrev pub json_rule : Rule
-json_rule = record (new_rule (codes "json")) { long = Some (codes "json"); action = Some SetTrue }
-
--- the option with the identifiers of the attributes that name objects, which has one value
-abbrev pub name_by_rule : Rule
-name_by_rule = record (new_rule (codes "name-by")) { long = Some (codes "name-by"); value_names = 1 }
+-- a flag, which has none
+abbrev pub flag_rule : Text → Rule
+flag_rule id = record (new_rule id) { long = Some id; action = Some SetTrue }
 
 -- a file that has to be named
 abbrev pub file_rule : Text → Rule
@@ -68,18 +45,11 @@ abbrev pub optional_files_rule : Text → Rule
 optional_files_rule id =
     record (new_rule id) { range = Some (record { start_inclusive = 1; end_inclusive = usize_max }) }
 
--- the flag for the digest of the schema
-abbrev pub schema_flag_rule : Rule
-schema_flag_rule = record (new_rule (codes "schema")) { long = Some (codes "schema"); action = Some SetTrue }
-
--- the option with a list or a manifest whose digests are held against those that are found, which has one value
-abbrev pub check_rule : Rule
-check_rule = record (new_rule (codes "check")) { long = Some (codes "check"); value_names = 1 }
-
 -- a subcommand over the files of a schema
 abbrev pub schema_command : Text → App
 schema_command name =
-    with_rule (with_rule (with_rule (new_app name) kinds_rule) (file_rule (codes "SCD"))) (file_rule (codes "DIC"))
+    with_rule (with_rule (with_rule (new_app name) (option_rule (codes "kinds"))) (file_rule (codes "SCD")))
+    (file_rule (codes "DIC"))
 
 -- a subcommand over a sheet and the file that something goes to
 abbrev pub output_command : Text → App
@@ -87,7 +57,8 @@ output_command name = with_rule (with_rule (schema_command name) (file_rule (cod
 
 -- the subcommands: over a sheet, over a sheet and where its canonical file goes, over two sheets, over many
 abbrev pub check_command : App
-check_command = with_rule (with_rule (schema_command (codes "check")) (file_rule (codes "VEC"))) json_rule
+check_command =
+    with_rule (with_rule (schema_command (codes "check")) (file_rule (codes "VEC"))) (flag_rule (codes "json"))
 
 abbrev pub canon_command : App
 canon_command = output_command (codes "canon")
@@ -95,53 +66,46 @@ canon_command = output_command (codes "canon")
 abbrev pub compare_command : App
 compare_command =
     with_rule (with_rule (with_rule (with_rule (schema_command (codes "compare")) (file_rule (codes "A")))
-    (file_rule (codes "B"))) pairing_rule) json_rule
+    (file_rule (codes "B"))) (option_rule (codes "pairing"))) (flag_rule (codes "json"))
 
 abbrev pub hash_command : App
 hash_command =
-    with_rule (with_rule
-    (with_rule (with_rule (schema_command (codes "hash")) (optional_files_rule (codes "VEC"))) schema_flag_rule)
-    check_rule) json_rule
+    with_rule (with_rule (with_rule (with_rule (schema_command (codes "hash")) (optional_files_rule (codes "VEC")))
+    (flag_rule (codes "schema"))) (option_rule (codes "check"))) (flag_rule (codes "json"))
 
 -- a rule's number, or the first file of a schema, or neither
 abbrev pub subject_rule : Rule
 subject_rule = record (new_rule (codes "SCD")) { value_names = 1 }
 
--- the flag for all that is broken
-abbrev pub all_rule : Rule
-all_rule = record (new_rule (codes "all")) { long = Some (codes "all"); action = Some SetTrue }
-
 -- the subcommand that lists the rules, or explains a rule or sheets
 abbrev pub explain_command : App
 explain_command =
-    with_rule (with_rule (with_rule (with_rule (with_rule (with_rule (new_app (codes "explain")) kinds_rule)
-    subject_rule) (new_rule (codes "DIC"))) (optional_files_rule (codes "VEC"))) all_rule) json_rule
+    with_rule (with_rule (with_rule (with_rule (with_rule (with_rule (new_app (codes "explain"))
+    (option_rule (codes "kinds"))) subject_rule) (new_rule (codes "DIC"))) (optional_files_rule (codes "VEC")))
+    (flag_rule (codes "all"))) (flag_rule (codes "json"))
 
 -- the subcommand over two sheets and a pairing's file
 abbrev pub verify_command : App
 verify_command =
     with_rule (with_rule (with_rule (with_rule (schema_command (codes "verify")) (file_rule (codes "A")))
-    (file_rule (codes "B"))) (file_rule (codes "FILE"))) json_rule
+    (file_rule (codes "B"))) (file_rule (codes "FILE"))) (flag_rule (codes "json"))
 
 -- the subcommand that reports what differs between two sheets
 abbrev pub diff_command : App
 diff_command =
     with_rule (with_rule (with_rule (with_rule (with_rule (with_rule (with_rule (schema_command (codes "diff"))
-    (file_rule (codes "A"))) (file_rule (codes "B"))) brief_rule) records_rule) json_rule) name_by_rule) picture_rule
+    (file_rule (codes "A"))) (file_rule (codes "B"))) (flag_rule (codes "brief"))) (flag_rule (codes "records")))
+    (flag_rule (codes "json"))) (option_rule (codes "name-by"))) (option_rule (codes "picture"))
 
 -- the subcommand over a sheet and where its picture goes
 abbrev pub draw_command : App
 draw_command = output_command (codes "draw")
 
--- the option with the file that a manifest goes to
-abbrev pub manifest_rule : Rule
-manifest_rule = file_option_rule (codes "manifest")
-
 -- the subcommand over deliveries
 abbrev pub delivery_command : App
 delivery_command =
-    with_rule (with_rule (with_rule (with_rule (new_app (codes "delivery")) kinds_rule) (files_rule (codes "PATH")))
-    manifest_rule) check_rule
+    with_rule (with_rule (with_rule (with_rule (new_app (codes "delivery")) (option_rule (codes "kinds")))
+    (files_rule (codes "PATH"))) (option_rule (codes "manifest"))) (option_rule (codes "check"))
 
 -- the subcommand over two lists of digests
 abbrev pub changed_command : App

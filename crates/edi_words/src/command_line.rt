@@ -1,7 +1,7 @@
 //! The command line, as clap takes it.
 ghost use Rattle.std.specs.Prelude.{◌≡◌, IfOk, IsOkAnd, codes};
 ghost use Rattle.clap.specs.Words.{AddsArg, AddsSubcommand, app_of, new_app, new_rule, rule_of, with_rule};
-ghost use Rattle.edi_words.specs.Requests.{all_rule, brief_rule, canon_command, changed_command, check_command, check_rule, compare_command, delivery_command, diff_command, draw_command, edicad, explain_command, file_option_rule, file_rule, files_rule, hash_command, json_rule, kinds_rule, manifest_rule, name_by_rule, optional_files_rule, pairing_rule, picture_rule, records_rule, schema_command, schema_flag_rule, subject_rule, verify_command};
+ghost use Rattle.edi_words.specs.Requests.{canon_command, changed_command, check_command, compare_command, delivery_command, diff_command, draw_command, edicad, explain_command, file_rule, files_rule, flag_rule, hash_command, option_rule, optional_files_rule, schema_command, subject_rule, verify_command};
 
 use clap::{Arg, ArgAction, Command};
 use std::alloc::{AllocError, Global};
@@ -77,7 +77,7 @@ fn check<'a>(alloc: Global) -> Result<Command<'a>, AllocError>
         "check",
         "Says whether a sheet is accepted, or which rule it breaks first",
     );
-    with_argument(over_sheet, json_flag(alloc, JSON_ANSWER))
+    with_argument(over_sheet, flag(alloc, "json", JSON_ANSWER))
 }
 
 // The subcommand that writes a sheet's canonical file.
@@ -119,8 +119,14 @@ fn compare<'a>(alloc: Global) -> Result<Command<'a>, AllocError>
         "compare",
         "Says whether two sheets state the same plan",
     );
-    let with_pairing = with_argument(over_pair, pairing_option(alloc));
-    with_argument(with_pairing, json_flag(alloc, JSON_ANSWER))
+    let pairing = option(
+        alloc,
+        "pairing",
+        "FILE",
+        "Where a pairing goes if the plans are the same",
+    );
+    let with_pairing = with_argument(over_pair, pairing);
+    with_argument(with_pairing, flag(alloc, "json", JSON_ANSWER))
 }
 
 // The subcommand that gives the digests of sheets.
@@ -133,14 +139,20 @@ fn hash<'a>(alloc: Global) -> Result<Command<'a>, AllocError>
         "Gives the SHA-256 digest of each sheet's canonical file",
     );
     let with_sheets = with_argument(over_schema, sheets_argument(alloc));
-    let with_schema = with_argument(with_sheets, schema_flag(alloc));
-    let check = check_option(
+    let schema = flag(alloc, "schema", "Gives the digest of the schema first");
+    let with_schema = with_argument(with_sheets, schema);
+    let check = option(
         alloc,
+        "check",
         "LIST",
         "Says which digests of a list are still the same",
     );
     let with_check = with_argument(with_schema, check);
-    let json = json_flag(alloc, "Gives the digests and refusals as lines of JSON");
+    let json = flag(
+        alloc,
+        "json",
+        "Gives the digests and refusals as lines of JSON",
+    );
     with_argument(with_check, json)
 }
 
@@ -154,9 +166,16 @@ fn delivery<'a>(alloc: Global) -> Result<Command<'a>, AllocError>
         "Gives the digests of the sheets of deliveries",
     );
     let with_paths = with_argument(with_kinds, paths_argument(alloc));
-    let with_manifest = with_argument(with_paths, manifest_option(alloc));
-    let check = check_option(
+    let manifest = option(
         alloc,
+        "manifest",
+        "FILE",
+        "Where the manifest of one delivery goes",
+    );
+    let with_manifest = with_argument(with_paths, manifest);
+    let check = option(
+        alloc,
+        "check",
         "MANIFEST",
         "Says which digests of a manifest are still the same",
     );
@@ -188,8 +207,17 @@ fn explain<'a>(alloc: Global) -> Result<Command<'a>, AllocError>
     let with_subject = with_argument(with_kinds, subject(alloc));
     let with_dic = with_argument(with_subject, optional_file(alloc, "DIC", DICTIONARY));
     let with_sheets = with_argument(with_dic, sheets_argument(alloc));
-    let with_all = with_argument(with_sheets, all_flag(alloc));
-    let json = json_flag(alloc, "Says the answer and the rest as lines of JSON");
+    let all = flag(
+        alloc,
+        "all",
+        "Lists every place that is wrong, and counts by rule",
+    );
+    let with_all = with_argument(with_sheets, all);
+    let json = flag(
+        alloc,
+        "json",
+        "Says the answer and the rest as lines of JSON",
+    );
     with_argument(with_all, json)
 }
 
@@ -204,7 +232,7 @@ fn verify<'a>(alloc: Global) -> Result<Command<'a>, AllocError>
     );
     let pairing = file(alloc, "FILE", "The pairing, as compare --pairing writes it");
     let with_pairing = with_argument(over_pair, pairing);
-    with_argument(with_pairing, json_flag(alloc, JSON_ANSWER))
+    with_argument(with_pairing, flag(alloc, "json", JSON_ANSWER))
 }
 
 // The subcommand that reports what differs between two sheets.
@@ -212,12 +240,34 @@ fn diff<'a>(alloc: Global) -> Result<Command<'a>, AllocError>
     ensures { IfOk result (λ c. app_of c ≡ diff_command) }
 {
     let over_pair = over_pair(alloc, "diff", "Says what differs between two sheets");
-    let with_brief = with_argument(over_pair, brief_flag(alloc));
-    let with_records = with_argument(with_brief, records_flag(alloc));
-    let json = json_flag(alloc, "Lists each record that differs as a line of JSON");
+    let brief = flag(alloc, "brief", "Says only how many records differ");
+    let with_brief = with_argument(over_pair, brief);
+    let records = flag(
+        alloc,
+        "records",
+        "Lists each record that differs, and not the objects",
+    );
+    let with_records = with_argument(with_brief, records);
+    let json = flag(
+        alloc,
+        "json",
+        "Lists each record that differs as a line of JSON",
+    );
     let with_json = with_argument(with_records, json);
-    let with_names = with_argument(with_json, name_by_option(alloc));
-    with_argument(with_names, picture_option(alloc))
+    let names = option(
+        alloc,
+        "name-by",
+        "ID,ID",
+        "Attributes that name objects [default: the usual]",
+    );
+    let with_names = with_argument(with_json, names);
+    let picture = option(
+        alloc,
+        "picture",
+        "FILE",
+        "Where a picture of what differs goes, as an SVG file",
+    );
+    with_argument(with_names, picture)
 }
 
 // A subcommand over a sheet.
@@ -256,11 +306,11 @@ fn over_schema<'a>(alloc: Global, name: &'a str, about: &'a str) -> Result<Comma
 
 // A subcommand with the option for the codes of the kinds.
 fn with_kinds<'a>(alloc: Global, name: &'a str, about: &'a str) -> Result<Command<'a>, AllocError>
-    ensures { IfOk result (λ c. app_of c ≡ with_rule (new_app name.entry.now) kinds_rule) }
+    ensures { IfOk result (λ c. app_of c ≡ with_rule (new_app name.entry.now) (option_rule (codes "kinds"))) }
 {
-    Command::new(alloc, name)
-        .about(about)
-        .arg(kinds_option(alloc))
+    let help = "Codes of the kinds of link [default: IND,FND,LPO,RPO]";
+    let kinds = option(alloc, "kinds", "I,F,L,R", help);
+    Command::new(alloc, name).about(about).arg(kinds)
 }
 
 // A rule's number, or the first file of a schema, or neither.
@@ -305,118 +355,19 @@ fn paths_argument<'a>(alloc: Global) -> Arg<'a>
     .num_args(1..)
 }
 
-// The flag that asks for the digest of the schema.
-fn schema_flag<'a>(alloc: Global) -> Arg<'a>
-    ensures { rule_of result ≡ schema_flag_rule }
+// A flag, which is asked for by its name.
+fn flag<'a>(alloc: Global, id: &'a str, help: &'a str) -> Arg<'a>
+    ensures { rule_of result ≡ flag_rule id.entry.now }
 {
-    Arg::new(alloc, "schema")
-        .long("schema")
-        .action(ArgAction::SetTrue)
-        .help("Gives the digest of the schema first")
-}
-
-// The option with a list or a manifest, whose digests are held against those that are found.
-fn check_option<'a>(alloc: Global, value: &'a str, help: &'a str) -> Arg<'a>
-    ensures { rule_of result ≡ check_rule }
-{
-    Arg::new(alloc, "check")
-        .long("check")
-        .value_name(value)
-        .help(help)
-}
-
-// The option with the codes of the kinds.
-fn kinds_option<'a>(alloc: Global) -> Arg<'a>
-    ensures { rule_of result ≡ kinds_rule }
-{
-    Arg::new(alloc, "kinds")
-        .long("kinds")
-        .value_name("I,F,L,R")
-        .help("Codes of the kinds of link [default: IND,FND,LPO,RPO]")
-}
-
-// The option with the file that a pairing goes to.
-fn pairing_option<'a>(alloc: Global) -> Arg<'a>
-    ensures { rule_of result ≡ pairing_rule }
-{
-    file_option(
-        alloc,
-        "pairing",
-        "Where a pairing goes if the plans are the same",
-    )
-}
-
-// The option with the file that a manifest goes to.
-fn manifest_option<'a>(alloc: Global) -> Arg<'a>
-    ensures { rule_of result ≡ manifest_rule }
-{
-    file_option(alloc, "manifest", "Where the manifest of one delivery goes")
-}
-
-// The option with the file that a picture goes to.
-fn picture_option<'a>(alloc: Global) -> Arg<'a>
-    ensures { rule_of result ≡ picture_rule }
-{
-    file_option(
-        alloc,
-        "picture",
-        "Where a picture of what differs goes, as an SVG file",
-    )
-}
-
-// An option with a file that something goes to.
-fn file_option<'a>(alloc: Global, id: &'a str, help: &'a str) -> Arg<'a>
-    ensures { rule_of result ≡ file_option_rule id.entry.now }
-{
-    Arg::new(alloc, id).long(id).value_name("FILE").help(help)
-}
-
-// The flag that asks for the text without the lines of records.
-fn brief_flag<'a>(alloc: Global) -> Arg<'a>
-    ensures { rule_of result ≡ brief_rule }
-{
-    Arg::new(alloc, "brief")
-        .long("brief")
-        .action(ArgAction::SetTrue)
-        .help("Says only how many records differ")
-}
-
-// The flag that asks for the text record by record.
-fn records_flag<'a>(alloc: Global) -> Arg<'a>
-    ensures { rule_of result ≡ records_rule }
-{
-    Arg::new(alloc, "records")
-        .long("records")
-        .action(ArgAction::SetTrue)
-        .help("Lists each record that differs, and not the objects")
-}
-
-// The flag that asks for all that is broken.
-fn all_flag<'a>(alloc: Global) -> Arg<'a>
-    ensures { rule_of result ≡ all_rule }
-{
-    Arg::new(alloc, "all")
-        .long("all")
-        .action(ArgAction::SetTrue)
-        .help("Lists every place that is wrong, and counts by rule")
-}
-
-// The option with the identifiers of the attributes that name objects.
-fn name_by_option<'a>(alloc: Global) -> Arg<'a>
-    ensures { rule_of result ≡ name_by_rule }
-{
-    Arg::new(alloc, "name-by")
-        .long("name-by")
-        .value_name("ID,ID")
-        .help("Attributes that name objects [default: the usual]")
-}
-
-// The flag that asks for lines of JSON.
-fn json_flag<'a>(alloc: Global, help: &'a str) -> Arg<'a>
-    ensures { rule_of result ≡ json_rule }
-{
-    Arg::new(alloc, "json")
-        .long("json")
+    Arg::new(alloc, id)
+        .long(id)
         .action(ArgAction::SetTrue)
         .help(help)
+}
+
+// An option with a value, which help calls so.
+fn option<'a>(alloc: Global, id: &'a str, value: &'a str, help: &'a str) -> Arg<'a>
+    ensures { rule_of result ≡ option_rule id.entry.now }
+{
+    Arg::new(alloc, id).long(id).value_name(value).help(help)
 }

@@ -588,13 +588,7 @@ fn count_standard(paths: &[&str]) -> usize
     ensures value { result ≡ standard_in (map (λ p. p.now) paths.now) }
     ensures bound { result ≤ length paths.now }
 {
-    let mut count = 0;
-    for path in paths {
-        if is_standard(path) {
-            count += 1;
-        }
-    }
-    count
+    paths.iter().filter(|path| is_standard(path)).count()
 }
 
 /// Whether a path stands for a standard stream.

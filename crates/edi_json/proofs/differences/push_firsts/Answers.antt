@@ -7,4 +7,4 @@ use Rattle.edi_json.proofs.differences.push_firsts.Goals as goal
 pub push_first-requires : goal.push_first-requires
 push_first-requires c =
     places_there c.args.kind c.args.report.now.first.accepted c.places-place-items.result.now c.loop-place.place-index
-    (c.places-place-items.ensures ∙ ap (places_of c.args.kind) (c.plan_of.ensures ∙ ap (λ (r : Report). r.first.accepted) c.report.view_is)) c.loop-place-test.true
+    (c.places-place-items.ensures ∙ ap (λ (r : Report). places_of c.args.kind r.first.accepted) c.report.view_is) c.loop-place-test.true

@@ -1,5 +1,3 @@
-use Rattle.std.proofs.Common.{◌∙◌, ap, get_or}
-use Rattle.edi_plan.specs.Places.{places_of}
 use Rattle.edi_plan.specs.Plans.{record_at}
 use Rattle.edi_record.specs.declared.record.Kind.TheVariants.{Par}
 use Rattle.edi_picture.proofs.ArcExtents.{one_arc_more}

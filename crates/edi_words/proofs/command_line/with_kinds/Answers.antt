@@ -8,5 +8,5 @@ pub returns : goal.returns
 returns c =
     let bare : app_of c.about.result ≡ new_app c.args.name.now = rw c.about.ensures c.new.ensures.app in
     IfOk-weaker c.arg.result _ _
-    (λ _ added. added.shape (arg_local c.kinds_option.result (ap (λ (r : Rule). r.is_simple) c.kinds_option.ensures))
-    ∙ ap₂ with_rule bare c.kinds_option.ensures) c.arg.ensures
+    (λ _ added. added.shape (arg_local c.option-kinds.result (ap (λ (r : Rule). r.is_simple) c.option-kinds.ensures))
+    ∙ ap₂ with_rule bare c.option-kinds.ensures) c.arg.ensures

@@ -1,7 +1,0 @@
-use Rattle.std.proofs.Common.{◌≡◌, ◌++◌, take}
-use Rattle.std.specs.List.{flat_map}
-use Rattle.edi_picture.specs.Elements.{node_text}
-use Rattle.edi_picture.proofs.canvas.Canvas.push_nodes.Given as goal
-
-abbrev pub invariant-loop-place : goal.invariant-loop-place
-invariant-loop-place l = l.text.items ≡ l.initial.text.items ++ flat_map (node_text l.self.schema.now l.self.frame l.ink l.sheet) (take l.place-index l.place-items)

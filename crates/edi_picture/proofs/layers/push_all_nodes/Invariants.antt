@@ -1,7 +1,0 @@
-use Rattle.std.proofs.Common.{◌≡◌, ◌++◌, take}
-use Rattle.std.specs.List.{flat_map}
-use Rattle.edi_picture.specs.Elements.{nodes_of}
-use Rattle.edi_picture.proofs.layers.push_all_nodes.Given as goal
-
-abbrev pub invariant-loop-sheet : goal.invariant-loop-sheet
-invariant-loop-sheet l = l.text.items ≡ l.initial.text.items ++ flat_map (nodes_of l.canvas.schema.now l.canvas.frame l.ink) (take l.sheet-index l.sheets)
