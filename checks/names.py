@@ -3,7 +3,7 @@
 
     checks/names.py [--check]  fails with a list if there are any
 
-A definition's name stands in one file of the crates' specs/ (specs/inner/ aside) only, and the name of a struct, an enum or a
+A definition's name stands in one file of the crates' specs/ only, and the name of a struct, an enum or a
 trait in the sources of one crate only. Fields and constructors may share theirs.
 """
 import glob
@@ -45,11 +45,11 @@ def defined(line, following):
 
 
 def definitions():
-    """For each defined name the files of public specs that define it."""
+    """For each defined name the files of specs that define it."""
     found = {}
     for path, line, following in lines_of("crates/*/specs/**/*.antt"):
         name = defined(line, following)
-        if name and "/specs/inner/" not in path:
+        if name:
             found.setdefault(name, set()).add(path)
     return found
 

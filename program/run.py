@@ -5,7 +5,7 @@
                                            compilers builds it; both have to be there, and are tried side by side
     program/run.py --program PATH          one program, as `rt run` in crates/edicad leaves it, or program/trial.py builds it
     program/run.py --without mount ..      without what needs `mount` (a full disk, a disk that is read-only); without
-                                           `preload` or `growths`, which need `cc`; without `kills` or `records` (ten million records)
+                                           `preload` or `growths`, which need `cc`; without `kills`, `records` (ten million records) or `stacks`
 
 Its last line is `N passed, M failed`; the status is 1 where M isn't 0. How many checks there are is stated below.
 """
@@ -37,6 +37,7 @@ from preloaded import made_files, refused_growths
 from presentations import presentations
 from progress import progress
 from room import Report, Room
+from stacks import stacks
 
 HERE = os.path.dirname(os.path.abspath(__file__))
 MADE = os.path.join(HERE, "..", "crates")
@@ -77,6 +78,7 @@ PARTS = {
     "manual": 26,
     "terminal": 3,
     "progress": 12,
+    "stacks": 39,
     "hostile folders": 11,
     "mount": 5,
     "preload": 134,
@@ -85,7 +87,7 @@ PARTS = {
     "kills": 8,
 }
 # the parts that can be left out, and those that are made of the first build alone
-OPTIONAL = ("mount", "preload", "growths", "kills", "records")
+OPTIONAL = ("mount", "preload", "growths", "kills", "records", "stacks")
 OF_ONE = ("growths", "kills", "records")
 
 
@@ -127,6 +129,7 @@ def works():
         "manual": manual,
         "terminal": terminal,
         "progress": progress,
+        "stacks": stacks,
         "hostile folders": lambda room: hostile_folders(room, sheet),
         "mount": lambda room: full_disk(room, sheet),
         "preload": lambda room: made_files(room, sheet),

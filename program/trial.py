@@ -7,8 +7,8 @@
 `rt try` builds crates/edicad and crates/conform without proving them, with checks that stop a run at a bad access or an
 overflow. The output of conform is compared with crates/conform/stdout, and the program is tried by program/run.py. What this
 doesn't show: anything that is proved, since no proof is looked at; the must-fail edits and the tests of the crates; the
-program as the two compilers build it, which is other code than is tried here, and fast; runs that are killed, growths of
-memory that are refused, and a file of ten million records. The status is 1 where anything failed.
+program as the two compilers build it, which is other code than is tried here, and fast, and what stack it needs; runs that are
+killed, growths of memory that are refused, and a file of ten million records. The status is 1 where anything failed.
 """
 import os
 import shutil
@@ -87,7 +87,8 @@ def try_program(run, folder):
     canonical = content(os.path.join(TOP, "examples", "node", "canonical.vec"))
     if program is None or run.returncode != 0 or content(os.path.join(folder, "stdout")) != canonical:
         return failed("edicad: it was not built, not kept, or its output on the example is another", folder, run)
-    words = ["--program", program, "--without", "kills", "--without", "growths", "--without", "records", *sys.argv[1:]]
+    left_out = [word for part in ("kills", "growths", "records", "stacks") for word in ("--without", part)]
+    words = ["--program", program, *left_out, *sys.argv[1:]]
     return subprocess.run([sys.executable, os.path.join(HERE, "run.py"), *words]).returncode
 
 
