@@ -1,12 +1,12 @@
 #!/usr/bin/env python3
 """Tries sheets of shapes that nobody exports, at full size and at a tenth of it.
 
-    cd crates/edicad && rt run -- --version                 builds out/edicad
-    python3 bench/shapes.py SCD DIC [SHAPE ..]              from the top; all shapes where none is named
-    python3 bench/shapes.py --commands SCD DIC [SHAPE ..]   each sheet through every other command that reads one
+    cd crates/edicad && rt run -- --version         builds out/edicad
+    python3 bench/shapes.py [SHAPE ..]              from the top; all shapes where none is named
+    python3 bench/shapes.py --commands [SHAPE ..]   each sheet through every other command that reads one
 
-SCD and DIC are those of a bundle with the classes that are named below. Each sheet goes through `canon` with a stack
-of 1 MiB; a pair of sheets that differ through `diff`, and a file of classes or a sheet that is refused through `explain`.
+Each sheet goes through `canon` with a stack
+of 256 KiB; a pair of sheets that differ through `diff`, and a file of classes or a sheet that is refused through `explain`.
 With `--commands` each sheet and its canonical file go through `hash`, `explain`, `draw`, `diff`, `compare --pairing` and `verify`.
 Printed for each shape: the size of its sheet, seconds of user and system time, the peak memory as a multiple of the size,
 how many times as long as a tenth of it takes, and the program's answer. Ten times the sheet should take little more than ten times.
@@ -17,10 +17,11 @@ import subprocess
 import sys
 import tempfile
 
+import generate
+
 HERE = os.path.dirname(os.path.abspath(__file__))
 PROGRAM = os.path.join(HERE, "..", "crates", "edicad", "out", "edicad")
-# (`diff` needs 544 KiB)
-STACK = 1024 * 1024
+STACK = 256 * 1024
 
 
 def zone(head, value):
@@ -59,6 +60,11 @@ def attributes(count):
     yield node(b"n", 1)
     for k in range(count):
         yield attribute(b"%d" % (k * 7919 % count))
+
+
+def zones(count):
+    """A node with so many zones without a value."""
+    yield node(b"n", 1) + zone(b"XYZSA", b"") * count
 
 
 def ends(count):
@@ -166,6 +172,7 @@ SHAPES = {
     "continued": (continued, 600_000),
     "empty": (empty, 4_000_000),
     "attributes": (attributes, 1_000_000),
+    "zones": (zones, 2_000_000),
     "ends": (ends, 1_500_000),
     "equal": (equal, 500_000),
     "objects": (objects, 400_000),
@@ -195,6 +202,20 @@ def timed(words):
     _, status, usage = os.wait4(process.pid, 0)
     answer = text.decode().partition("\n")[0] or f"status {os.waitstatus_to_exitcode(status)}"
     return answer, usage.ru_utime + usage.ru_stime, usage.ru_maxrss * 1024
+
+
+def put_schema(folder):
+    """Writes the classes and the dictionary that the shapes name; their paths."""
+    classes = [generate.class_record("PGE", name) for name in generate.PLACES]
+    classes += [generate.class_record("OBJ", "PARCELLE_id"), generate.class_record("REL", "VOISIN_id")]
+    classes += [generate.class_record("REL", name, code=code) for name, code in generate.RELATIONS]
+    classes.append(generate.class_record("ATT", "NOM_id", word="NOM"))
+    word = generate.zone("RTYSA", "DIA") + generate.zone("RIDSA", "NOM") + generate.zone("TYPSA", "A")
+    paths = [os.path.join(folder, name) for name in ("scd", "dic")]
+    for path, name, text in zip(paths, ("EDAB01SE.SCD", "EDAB01DI.DIC"), ("".join(classes), word)):
+        with open(path, "w", encoding="ascii") as file:
+            file.write(generate.begin(name) + text + generate.END)
+    return paths
 
 
 def put(path, zones):
@@ -255,25 +276,26 @@ def through_commands(name, scd, dic, folder):
         print(f"| {name} | {command} | {seconds:.1f} s | {peak / size:.1f} | {seconds / max(least, 0.01):.1f} | {answer[:40]} |", flush=True)
 
 
-def all_commands(scd, dic, names):
-    print("| shape | command | time | memory / size | against a tenth | answer |")
-    print("|---|---|---|---|---|---|")
-    with tempfile.TemporaryDirectory() as folder:
+def tables(folder, names, of_commands):
+    """The table of all shapes, or that of the other commands."""
+    scd, dic = put_schema(folder)
+    if of_commands:
+        print("| shape | command | time | memory / size | against a tenth | answer |\n|---|---|---|---|---|---|")
         for name in names or SHAPES:
             through_commands(name, scd, dic, folder)
+        return
+    print("| shape | size | time | memory / size | against a tenth | answer |\n|---|---|---|---|---|---|")
+    for name in names or [*SHAPES, *PAIRS, *CLASSES, *REFUSED]:
+        _, least, _, _ = tried(name, 10, scd, dic, folder)
+        answer, seconds, peak, size = tried(name, 1, scd, dic, folder)
+        print(f"| {name} | {size / 1e6:.0f} MB | {seconds:.1f} s | {peak / size:.1f} | {seconds / least:.1f} | {answer} |", flush=True)
 
 
 def main():
-    if sys.argv[1] == "--commands":
-        return all_commands(*sys.argv[2:4], sys.argv[4:])
-    scd, dic, *names = sys.argv[1:]
-    print("| shape | size | time | memory / size | against a tenth | answer |")
-    print("|---|---|---|---|---|---|")
+    names = sys.argv[1:]
+    of_commands = names[:1] == ["--commands"]
     with tempfile.TemporaryDirectory() as folder:
-        for name in names or [*SHAPES, *PAIRS, *CLASSES, *REFUSED]:
-            _, least, _, _ = tried(name, 10, scd, dic, folder)
-            answer, seconds, peak, size = tried(name, 1, scd, dic, folder)
-            print(f"| {name} | {size / 1e6:.0f} MB | {seconds:.1f} s | {peak / size:.1f} | {seconds / least:.1f} | {answer} |", flush=True)
+        tables(folder, names[of_commands:], of_commands)
 
 
 if __name__ == "__main__":
