@@ -77,7 +77,7 @@ def pairs(scd, dic, vec, folder):
     least = counted(["compare", *files], "same")
     for words in (["compare", "--pairing", pairing, *files], ["verify", *files, pairing], ["diff", *files]):
         name = " ".join(word for word in words if word not in (*files, pairing))
-        count = counted(words, "valid" if name == "verify" else "same")
+        count = counted(words, "pairs" if name == "verify" else "same")
         print(f"| `{name}` / `compare` | {count / least:.2f} |", flush=True)
 
 
