@@ -19,12 +19,12 @@ use Rattle.edi_rank.specs.Same.{CarriesRecord, class_after, moved}
 use Rattle.edi_rank.proofs.KeysPreserved.{all_weaker}
 use Rattle.edi_rank.proofs.Orders.{end_total, end_exact, link_key_total}
 use Rattle.edi_rank.proofs.SameLaws.{map-map, map_alike}
-use Rattle.std.proofs.Common.{MatchOption, None, Some, true≢false}
+use Rattle.std.proofs.Common.{IfOk, MatchOption, None, Some, Result, Ok, Err, true≢false}
 use Rattle.std.specs.Option.{is_some}
 use Rattle.edi_rank.specs.contracts.keys.LinkKeyOrd.TheImpl.{ghosts as links}
 use Rattle.edi_rank.proofs.KeyOrders.{link_order}
 use Rattle.edi_matching.specs.Matchings.{IsMatched, MatchingHolds, targets_of}
-use Rattle.edi_matching.specs.inner.Links.{IsFree, IsMoreReached, ListsFree, matching_so, moved_key}
+use Rattle.edi_matching.specs.inner.Links.{IsFree, IsLeftIfAny, IsMissedIfAny, IsMoreReached, ListsFree, matching_so, moved_key}
 use Rattle.edi_matching.specs.inner.Proposals.{Proposal}
 use Rattle.edi_matching.proofs.Totals.{target_is}
 
@@ -88,6 +88,17 @@ pub none_with : (pairs : List (LinkKey × ℕ)) (key : LinkKey) (found : Option 
     → All (λ (pair : LinkKey × ℕ). link_key_cmp pair.0 key ≢ Equal) pairs
 none_with pairs key (Some x) none found = absurd (true≢false none)
 none_with pairs key None none found = λ k d h e. found k d h (link_order (get_or pairs k d).0 key ∙ e)
+
+-- what is missed is left, where the link goes nowhere yet
+pub left_if_missed : {E : Type 0} (m : Proposal) (marks : List Bool) (to : List (Option ℕ)) (i : ℕ) → is_some (get_or to i None) ≡ false → (found : Result (Option ℕ) E)
+    → IfOk found (IsMissedIfAny m marks i) → IfOk found (IsLeftIfAny m marks to i)
+left_if_missed m marks to i none (Ok None) missed = λ left. missed
+left_if_missed m marks to i none (Ok (Some j)) missed = (none_there (get_or to i None) none, missed)
+  where
+    none_there : (o : Option ℕ) → is_some o ≡ false → o ≡ None
+    none_there None e = refl
+    none_there (Some x) e = absurd (true≢false e)
+left_if_missed m marks to i none (Err e) missed = tt
 
 -- a link of a plan has its own key
 pub key_itself : (q : PlanData) (itself : List ℕ) (r : PlanRecord) → ((k : ℕ) → k < length q.list → slice_index itself k ≡ k) → AllByRecursion (λ e. IsPlace q e.target) r.ends

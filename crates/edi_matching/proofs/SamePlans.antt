@@ -5,10 +5,9 @@ use Rattle.edi_line.specs.Refusal.{IsUnbroken}
 use Rattle.edi_record.specs.declared.record.Kind.{Kind}
 use Rattle.edi_record.specs.declared.record.Kind.TheVariants.{Pno, Par, Pfe, Fea, Lnk}
 use Rattle.edi_schema.specs.Classes.{Classes, IsSchema}
-use Rattle.edi_plan.specs.Agreeing.{Agrees, HasClasses}
+use Rattle.edi_plan.specs.Agreeing.{HasClasses}
 use Rattle.edi_plan.specs.Plans.{PlanData, record_at}
 use Rattle.edi_topo.specs.TopologyRules.{BreaksTopologyRule}
-use Rattle.edi_rank.specs.EqualObjects.{BreaksObjectRule}
 use Rattle.edi_rank.specs.Arranged.{arranged, new_place}
 use Rattle.edi_rank.specs.Labelling.{Labelling, AreLabels, order_of, number_of, turned_at}
 use Rattle.edi_rank.specs.Laws.{IsPlanUnder}
@@ -25,7 +24,7 @@ use Rattle.edi_compare.specs.Pairings.{PairingCarries}
 use Rattle.edi_compare.specs.declared.numbered.NumberedRecords.{NumberedRecords}
 use Rattle.edi_compare.specs.declared.pairing.Pairing.{Pairing}
 use Rattle.edi_compare.proofs.Classed.{classed}
-use Rattle.edi_compare.proofs.Headline.{plan_under, objects_hold, topology_hold}
+use Rattle.edi_compare.proofs.Headline.{plan_under, topology_hold}
 use Rattle.edi_compare.proofs.Pairs.{have_counterparts, pairing_carries}
 use Rattle.edi_matching.specs.inner.Same.{AreAsMany}
 
@@ -34,14 +33,8 @@ use Rattle.edi_matching.specs.inner.Same.{AreAsMany}
 pub accepted_under : (s : Classes) (p : PlanData) → IsSchema s → IsAcceptedPlan s p → IsPlanUnder s p
 accepted_under s p keeps h = plan_under s h.0 p keeps h.1 h.2
 
-pub accepted_agrees : (s : Classes) (p : PlanData) → IsSchema s → IsAcceptedPlan s p → Agrees s p
-accepted_agrees s p keeps h = (accepted_under s p keeps h).agrees
-
 pub accepted_classed : (s : Classes) (p : PlanData) → IsSchema s → IsAcceptedPlan s p → HasClasses s p
-accepted_classed s p keeps h = classed s p.list (accepted_agrees s p keeps h)
-
-pub accepted_apart : (s : Classes) (p : PlanData) → IsAcceptedPlan s p → IsUnbroken (BreaksObjectRule p)
-accepted_apart s p h = objects_hold s h.0 h.1 p h.2
+accepted_classed s p keeps h = classed s p.list (accepted_under s p keeps h).agrees
 
 -- as many records of each type have counterparts
 

@@ -1,14 +1,14 @@
 //! Numbers of what records hold, so that the attributes of each are put in order once, and two that hold different
 //! things need not be compared again for each arc or link that names both.
 
-ghost use Rattle.std.specs.Prelude.{◌≡◌, ◌++◌, ℕ, filter_map, length, option_to_list, IfOk, IsPermutation, IsSorted, OnOk};
+ghost use Rattle.std.specs.Prelude.{◌≡◌, ℕ, filter_map, length, IfOk, IsPermutation, IsSorted};
 ghost use Rattle.edi_plan.specs.Places.{places_of};
 ghost use Rattle.edi_plan.specs.Plans.{IsPlace, record_at};
 ghost use Rattle.edi_matching.specs.inner.Additions.{AreInOrder};
 ghost use Rattle.edi_matching.specs.inner.Contents.{AreContents, AreNumbersOf, IsContentNumber, IsNumberIn, held_at};
 
 use crate::added::has_key;
-use crate::entries::{ContentKey, contents_at};
+use crate::entries::{ContentKey, contents_at, push_contents};
 use edi_plan::Plan;
 use edi_record::Kind;
 use std::alloc::{AllocError, Global};
@@ -55,26 +55,10 @@ fn records_by_contents(
 {
     let mut records = Vec::new(alloc);
     for place in plan.places(kind) {
-        push_held(&mut records, alloc, plan, *place)?;
+        push_contents(&mut records, alloc, plan, *place, *place)?;
     }
     records.sort_unstable();
     Ok(records)
-}
-
-/// Appends a record, if it is one of the plan, with what it holds.
-fn push_held<'a>(
-    records: &mut Vec<(ContentKey<'a>, u32)>,
-    alloc: Global,
-    plan: &'a Plan,
-    place: u32,
-) -> Result<(), AllocError>
-    ensures { OnOk result (records.new.items ≡ records.old.items ++ option_to_list (held_at plan.now place)) }
-{
-    if place >= plan.len() {
-        return Ok(());
-    }
-    records.push((contents_at(alloc, plan, place)?, place))?;
-    Ok(())
 }
 
 /// The number of what each record of a plan holds, if it is of this type, and else 0.

@@ -7,7 +7,7 @@ ghost use Rattle.edi_plan.specs.Agreeing.{HasClasses};
 ghost use Rattle.edi_plan.specs.Places.{places_of};
 ghost use Rattle.edi_plan.specs.Plans.{IsPlace, record_at};
 ghost use Rattle.edi_rank.specs.Keys.{link_key_cmp};
-ghost use Rattle.edi_matching.specs.inner.Entries.{all_there, content_at, content_entries, content_entry, contents_of, end_there, ends_there, keyed_places, link_entries, link_key_with, link_there, neighbour_entries, neighbour_entry, object_among};
+ghost use Rattle.edi_matching.specs.inner.Entries.{all_there, content_beside, content_entries, content_entry, contents_of, end_there, ends_there, keyed_places, link_entries, link_key_with, link_there, neighbour_entries, neighbour_entry, object_among};
 ghost use Rattle.edi_matching.specs.inner.Ranked.{member_at};
 
 use crate::added::target_of;
@@ -205,26 +205,29 @@ pub(crate) fn objects_by_contents<'a>(
     let mut objects = Vec::new(alloc);
     for place in here.plan.places(Kind::Fea) {
         if !is_done(done, *place) {
-            push_contents(&mut objects, alloc, here.plan, here.member(*place))?;
+            let member = here.member(*place);
+            push_contents(&mut objects, alloc, here.plan, member.place, member)?;
         }
     }
     objects.sort_unstable();
     Ok(objects)
 }
 
-/// Appends a record, if it is one of the plan, with what it holds.
-fn push_contents<'a>(
-    records: &mut Vec<(ContentKey<'a>, Member)>,
+/// Appends what a record holds, with a value beside it, if it is one of the plan.
+pub(crate) fn push_contents<'a, T: Copy>(
+    records: &mut Vec<(ContentKey<'a>, T)>,
     alloc: Global,
     plan: &'a Plan,
-    member: Member,
+    place: u32,
+    value: T,
 ) -> Result<(), AllocError>
-    ensures { OnOk result (records.new.items ≡ records.old.items ++ option_to_list (content_at plan.now member)) }
+    ensures { OnOk result (records.new.items
+        ≡ records.old.items ++ option_to_list (content_beside plan.now place value)) }
 {
-    if member.place >= plan.len() {
+    if place >= plan.len() {
         return Ok(());
     }
-    records.push((contents_at(alloc, plan, member.place)?, member))?;
+    records.push((contents_at(alloc, plan, place)?, value))?;
     Ok(())
 }
 

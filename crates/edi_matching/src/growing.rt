@@ -18,8 +18,8 @@ use crate::entries::{ContentKey, NeighbourKey, links_by_key, objects_beside, obj
 use crate::matching::Matching;
 use crate::plain_links::plain_links;
 use crate::ranked::Ranked;
-use crate::same::labels_of;
 use edi_compare::Accepted;
+use edi_compare::comparing_accepted::labels_of;
 use edi_line::Sequence;
 use edi_plan::Plan;
 use edi_record::Kind;

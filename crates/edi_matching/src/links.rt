@@ -110,31 +110,7 @@ impl<'a> Proposed<'a> {
         requires long { length to.now ≡ length self.now.plan.list }
         ensures { IfOk result (IsLeftIfAny self.now reached.now to.now place) }
     {
-        match to[place as usize] {
-            Some(_) => Ok(None),
-            None => self.missed_link(alloc, links, reached, place),
-        }
-    }
-
-    /// A link onto which this one is carried with all its ends, and that is not reached.
-    fn missed_link(
-        &self,
-        alloc: Global,
-        links: &[(LinkKey<'_>, u32)],
-        reached: &[bool],
-        place: u32,
-    ) -> Result<Option<u32>, AllocError>
-        requires place { IsPlace self.now.plan place }
-        requires link { (record_at self.now.plan place).kind ≡ Lnk }
-        requires whole { IsWholePlan self.now.plan }
-        requires targets { self.now.targets ≡ targets_of self.now.to }
-        requires holds { MatchingHolds self.now.classes self.now.plan self.now.other
-            (matching_so self.now self.now.to) }
-        requires sorted { IsSorted (λ x y. ordering_then (link_key_cmp x.0 y.0) (nat_cmp x.1 y.1)) links.now }
-        requires lists { (free : List Bool) × ListsFree self.now.other free links.now × IsMoreReached free reached.now }
-        ensures { IfOk result (IsMissedIfAny self.now reached.now place) }
-    {
-        if !self.has_matched_ends(place) {
+        if to[place as usize].is_some() || !self.has_matched_ends(place) {
             return Ok(None);
         }
         let key = self.key(alloc, place)?;

@@ -6,12 +6,10 @@ ghost use Rattle.edi_record.specs.declared.record.Kind.TheVariants.{Par};
 ghost use Rattle.edi_plan.specs.Plans.{IsPlace, record_at};
 ghost use Rattle.edi_rank.specs.Labelling.{turned_at};
 ghost use Rattle.edi_matching.specs.Matchings.{GoesTo, IsMatched};
-ghost use Rattle.edi_matching.specs.inner.Proposals.{HasSameBody, HoldsAt, IsCarried};
+ghost use Rattle.edi_matching.specs.inner.Proposals.{HoldsAt, IsCarried};
 
-use edi_compare::contents::{same_attributes, same_extras, same_points};
-use edi_compare::moved_ends::same_ends;
+use edi_compare::Carrier;
 use edi_plan::{Plan, PlanEnd};
-use edi_rank::class_turned;
 use edi_record::Kind;
 use edi_schema::Schema;
 use std::alloc::{AllocError, Global};
@@ -120,33 +118,17 @@ impl<'a> Proposed<'a> {
         requires target { IsPlace self.now.other target }
         ensures { IfOk result (λ answer. IsTrue answer ↔ IsCarried self.now place target) }
     {
-        if !self.has_same_body(place, target) {
-            return Ok(false);
+        let carrier = Carrier {
+            schema: self.schema,
+            plan: self.plan,
+            other: self.other,
+            to: self.targets,
+            turned: self.turned,
+        };
+        match carrier.first_unlike(alloc, place, target)? {
+            Some(_) => Ok(false),
+            None => Ok(true),
         }
-        let attributes = self.plan.attributes(place);
-        if !same_attributes(alloc, attributes, self.other.attributes(target))? {
-            return Ok(false);
-        }
-        self.plan.keeps();
-        same_ends(
-            alloc,
-            self.targets,
-            self.plan.ends(place),
-            self.other.ends(target),
-        )
-    }
-
-    /// Whether a record has the type, the class, the points and the extra zones of one of the other plan.
-    fn has_same_body(&self, place: u32, target: u32) -> bool
-        requires place { IsPlace self.now.plan place }
-        requires target { IsPlace self.now.other target }
-        ensures { IsTrue result ↔ HasSameBody self.now place target }
-    {
-        let turned = self.turned[place as usize];
-        self.other.kind(target) == self.plan.kind(place)
-            && self.other.scp(target) == class_turned(self.schema, self.plan, self.turned, place)
-            && same_points(self.plan.points(place), turned, self.other.points(target))
-            && same_extras(self.plan.extras(place), self.other.extras(target))
     }
 }
 

@@ -9,14 +9,14 @@ ghost use Rattle.edi_matching.specs.inner.Checksums.{HaveOneChecksum};
 ghost use Rattle.edi_matching.specs.inner.Same.{AreAsMany};
 
 use crate::checksum::plan_checksum;
+use edi_compare::comparing_accepted::labels_of;
 use edi_compare::contents::same_texts;
 use edi_compare::numbered::{numbered_records, paired};
 use edi_compare::{Accepted, Pairing, check_pairing};
 use edi_plan::Plan;
-use edi_rank::{Labels, RankFault};
+use edi_rank::Labels;
 use edi_record::Kind;
 use edi_schema::Schema;
-use edi_topo::Sound;
 use std::alloc::{AllocError, Global};
 
 /// A pairing that carries the plan of the one sheet onto that of the other, if there is one.
@@ -76,19 +76,6 @@ fn pairing_by_labels(
         Ok(Some(pairing))
     } else {
         Ok(None)
-    }
-}
-
-/// The labels of the plan of an accepted sheet.
-pub(crate) fn labels_of(alloc: Global, schema: &Schema, sound: &Sound) -> Result<Labels, AllocError>
-    requires { IsAcceptedPlan schema.now sound.now }
-    ensures { IfOk result (AreLabels schema.now sound.now) }
-{
-    schema.keeps();
-    match Labels::of(alloc, schema, sound) {
-        Ok(labels) => Ok(labels),
-        Err(RankFault::Memory(error)) => Err(error),
-        Err(RankFault::Broken { .. }) => unreachable!(),
     }
 }
 

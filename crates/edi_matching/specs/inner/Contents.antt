@@ -1,5 +1,5 @@
 -- Numbers of what records hold.
-use Rattle.std.specs.Prelude.{◌≡◌, ◌≢◌, ◌⊎◌, ℕ, ◌+◌, Bool, List, Option, Some, None, IsPermutation, filter_map, if◌then◌else◌, length, nat_lt, slice_index_or}
+use Rattle.std.specs.Prelude.{◌≡◌, ◌≢◌, ◌⊎◌, ℕ, ◌+◌, Bool, List, Option, IsPermutation, filter_map, length, slice_index_or}
 use Rattle.std.specs.declared.cmp.Ordering.{Ordering}
 use Rattle.edi_record.specs.declared.record.Kind.{Kind}
 use Rattle.edi_plan.specs.Places.{places_of}
@@ -8,7 +8,7 @@ use Rattle.edi_plan.specs.declared.record.PlanRecord.{PlanRecord}
 use Rattle.edi_matching.specs.declared.contents.Contents.{Contents}
 use Rattle.edi_matching.specs.declared.entries.ContentKey.{ContentKey}
 use Rattle.edi_matching.specs.inner.Additions.{AreInOrder, HasKey, IsFirstFrom}
-use Rattle.edi_matching.specs.inner.Entries.{contents_of}
+use Rattle.edi_matching.specs.inner.Entries.{content_beside, contents_of}
 
 -- one more than the first position whose key isn't less, if that has the key, and else 0
 pub record IsNumberIn {K X : Type 0} (cmp : K → K → Ordering) (eq : K → K → Bool) (order : List (K × X)) (key : K)
@@ -19,7 +19,7 @@ pub record IsNumberIn {K X : Type 0} (cmp : K → K → Ordering) (eq : K → K 
 
 -- a place with what its record holds, if it is one of the plan
 abbrev pub held_at : PlanData → ℕ → Option (ContentKey × ℕ)
-held_at p k = if nat_lt k (length p.list) then Some (contents_of (record_at p k), k) else None
+held_at p k = content_beside p k k
 
 -- over the order and the equality of what records hold
 module _ (cmp : ContentKey → ContentKey → Ordering) (eq : ContentKey → ContentKey → Bool) where

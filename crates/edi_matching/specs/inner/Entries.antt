@@ -62,9 +62,12 @@ keyed_places key places = filter_map (λ k. option_map (λ x. (x, k)) (key k)) p
 abbrev pub contents_of : PlanRecord → ContentKey
 contents_of r = record { class = r.class; attributes = sort_by attribute_cmp r.attributes; extras = r.extras }
 
--- a record, by what it holds, if it is one of the plan
+-- what the record at a place holds, with a value beside it, if it is one of the plan
+abbrev pub content_beside : {T : Type 0} → PlanData → ℕ → T → Option (ContentKey × T)
+content_beside p k x = if nat_lt k (length p.list) then Some (contents_of (record_at p k), x) else None
+
 abbrev pub content_at : PlanData → Member → Option (ContentKey × Member)
-content_at p m = if nat_lt m.place (length p.list) then Some (contents_of (record_at p m.place), m) else None
+content_at p m = content_beside p m.place m
 
 -- the record at a place, by what it holds, if it isn't done
 abbrev pub content_entry : PlanData → Labelling → List Bool → ℕ → Option (ContentKey × Member)

@@ -2,10 +2,10 @@
 use Rattle.std.specs.Prelude.{◌≡◌, ℕ, Bool, true, List, Option, length, slice_index}
 use Rattle.std.specs.List.{AllByRecursion}
 use Rattle.edi_record.specs.declared.record.Kind.TheVariants.{Par}
-use Rattle.edi_schema.specs.Classes.{Classes, partner_of}
+use Rattle.edi_schema.specs.Classes.{Classes}
 use Rattle.edi_plan.specs.Plans.{PlanData, IsPlace, record_at}
 use Rattle.edi_rank.specs.Labelling.{turned_at}
-use Rattle.edi_rank.specs.Same.{class_after, directed, CarriesRecord}
+use Rattle.edi_rank.specs.Same.{CarriesRecord}
 use Rattle.edi_plan.specs.Agreeing.{HasClasses}
 use Rattle.edi_matching.specs.Matchings.{GoesTo, IsMatched}
 
@@ -31,13 +31,6 @@ pub record IsFitting (m : Proposal) : Type 0 where
 abbrev pub IsCarried : Proposal → ℕ → ℕ → Type 0
 IsCarried m i j =
     CarriesRecord m.classes (slice_index m.targets) (turned_at m.turned) i (record_at m.plan i) (record_at m.other j)
-
--- of that what needs no order: kind, class, points and extra zones
-pub record HasSameBody (m : Proposal) (i j : ℕ) : Type 0 where
-  pub kind : (record_at m.other j).kind ≡ (record_at m.plan i).kind
-  pub class : (record_at m.other j).class ≡ class_after (partner_of m.classes) (turned_at m.turned) (record_at m.plan i)
-  pub points : (record_at m.other j).points ≡ directed (turned_at m.turned i) (record_at m.plan i).points
-  pub extras : (record_at m.other j).extras ≡ (record_at m.plan i).extras
 
 -- what is asked of the record at the place i
 pub record HoldsAt (m : Proposal) (i : ℕ) : Type 0 where

@@ -21,7 +21,7 @@ loop-place-preserved c =
     let found : entry place ≡ cond c.is_done.result None (content_at p (member_at l place)) = ap (λ b. cond b None (content_at p (member_at l place))) (sym c.is_done.ensures) in
     elim c.if-not-is_done.branch [
       | then-not-is_done+in_ok-push_contents w ↦
-          let is : content_at p w.member.result ≡ entry place = ap (content_at p) w.member.ensures ∙ sym (found ∙ ap (λ b. cond b None (content_at p (member_at l place))) w.if-not-is_done.true) in
+          let is : content_at p w.member-member.result ≡ entry place = ap (content_at p) w.member-member.ensures ∙ sym (found ∙ ap (λ b. cond b None (content_at p (member_at l place))) w.if-not-is_done.true) in
           ap (λ (v : Vec (ContentKey × Member) Global). v.items) w.objects-is
           ∙ known_any (places_of Fea p) items c.places-place-items.ensures n 0 entry old w.push_contents.new.records.items c.loop-place-test.true c.loop-place.invariant
           (w.in_ok-push_contents.ensures ∙ ap (λ o. old ++ option_to_list o) is)
