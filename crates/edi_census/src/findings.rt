@@ -18,33 +18,7 @@ use edi_topo::{Sound, TopologyFindings};
 use std::alloc::{AllocError, Global};
 use std::marker::Model;
 
-/// The records of a sheet, and what their references break.
-struct JudgedReferences<'a> {
-    findings: ReferenceFindings<'a>,
-    count: u32,
-}
-
-impl Drop for JudgedReferences<'_> {
-    fn drop(self) {
-        let JudgedReferences {
-            findings: _,
-            count: _,
-        } = self;
-    }
-}
-
-impl<'a> Model for JudgedReferences<'a> {
-    ghost use Rattle.std.specs.Prelude.{◌≡◌, length};
-    ghost use Rattle.edi_plan.specs.RecordsUnderSchema.{RecordsUnderSchema};
-
-    ghost Value = { RecordsUnderSchema };
-
-    ghost view = { λ j. j.findings };
-
-    ghost invariant = { λ j. j.count ≡ length j.findings.list };
-}
-
-impl<'a> Judging for JudgedReferences<'a> {
+impl Judging for ReferenceFindings<'_> {
     ghost use Rattle.std.specs.Prelude.{length};
     ghost use Rattle.edi_plan.specs.ReferenceRules.{BreaksReferenceRule};
 
@@ -52,12 +26,8 @@ impl<'a> Judging for JudgedReferences<'a> {
 
     ghost size = { λ j. length j.list };
 
-    fn len(&self) -> u32 {
-        self.count
-    }
-
     fn breaks(&self, rule: u16, place: u32) -> bool {
-        self.findings.breaks(rule, place)
+        self.breaks(rule, place)
     }
 }
 
@@ -70,40 +40,11 @@ pub fn broken_references(
     requires { length records.now ≤ most_records }
     ensures { IfOk result (λ list. AreAllBroken (BreaksReferenceRule schema.now records.now) list.items) }
 {
-    let judged = JudgedReferences {
-        findings: ReferenceFindings::of(alloc, schema, records)?,
-        count: records.len() as u32,
-    };
-    broken_by(alloc, &judged, 301, 307)
+    let findings = ReferenceFindings::of(alloc, schema, records)?;
+    broken_by(alloc, &findings, records.len() as u32, 301, 307)
 }
 
-/// The records of a plan, and what of the topology they break.
-struct JudgedTopology<'a> {
-    findings: TopologyFindings<'a>,
-    count: u32,
-}
-
-impl Drop for JudgedTopology<'_> {
-    fn drop(self) {
-        let JudgedTopology {
-            findings: _,
-            count: _,
-        } = self;
-    }
-}
-
-impl<'a> Model for JudgedTopology<'a> {
-    ghost use Rattle.std.specs.Prelude.{◌≡◌, length};
-    ghost use Rattle.edi_plan.specs.Plans.{PlanData};
-
-    ghost Value = { PlanData };
-
-    ghost view = { λ j. j.findings };
-
-    ghost invariant = { λ j. j.count ≡ length j.findings.list };
-}
-
-impl<'a> Judging for JudgedTopology<'a> {
+impl Judging for TopologyFindings<'_> {
     ghost use Rattle.std.specs.Prelude.{length};
     ghost use Rattle.edi_topo.specs.TopologyRules.{BreaksTopologyRule};
 
@@ -111,12 +52,8 @@ impl<'a> Judging for JudgedTopology<'a> {
 
     ghost size = { λ j. length j.list };
 
-    fn len(&self) -> u32 {
-        self.count
-    }
-
     fn breaks(&self, rule: u16, place: u32) -> bool {
-        self.findings.breaks(rule, place)
+        self.breaks(rule, place)
     }
 }
 
@@ -124,32 +61,19 @@ impl<'a> Judging for JudgedTopology<'a> {
 pub fn broken_topology(alloc: Global, plan: &Plan) -> Result<Vec<BrokenRule>, AllocError>
     ensures { IfOk result (λ list. AreAllBroken (BreaksTopologyRule plan.now) list.items) }
 {
-    let judged = JudgedTopology {
-        findings: TopologyFindings::of(alloc, plan)?,
-        count: plan.len(),
-    };
-    broken_by(alloc, &judged, 401, 406)
+    let findings = TopologyFindings::of(alloc, plan)?;
+    broken_by(alloc, &findings, plan.len(), 401, 406)
 }
 
 /// The records of a sound plan, and which of them are objects that are equal to an earlier one.
+#[derive(Drop)]
 struct JudgedObjects<'a> {
     sound: &'a Sound,
     repeated: Vec<bool>,
-    count: u32,
-}
-
-impl Drop for JudgedObjects<'_> {
-    fn drop(self) {
-        let JudgedObjects {
-            sound: _,
-            repeated: _,
-            count: _,
-        } = self;
-    }
 }
 
 impl<'a> Model for JudgedObjects<'a> {
-    ghost use Rattle.std.specs.Prelude.{◌≡◌, ◌+◌, length};
+    ghost use Rattle.std.specs.Prelude.{◌+◌, length};
     ghost use Rattle.edi_plan.specs.Plans.{PlanData};
     ghost use Rattle.edi_rank.specs.EqualObjects.{BreaksObjectRule};
     ghost use Rattle.edi_topo.specs.Marks.{AreMarksOf};
@@ -158,21 +82,17 @@ impl<'a> Model for JudgedObjects<'a> {
 
     ghost view = { λ j. j.sound.now };
 
-    ghost invariant = { λ j. (j.count ≡ length j.sound.now.list)
-        × AreMarksOf (length j.sound.now.list) (λ place. BreaksObjectRule j.sound.now 501 (place + 1)) j.repeated.items };
+    ghost invariant = { λ j. AreMarksOf (length j.sound.now.list)
+        (λ place. BreaksObjectRule j.sound.now 501 (place + 1)) j.repeated.items };
 }
 
-impl<'a> Judging for JudgedObjects<'a> {
+impl Judging for JudgedObjects<'_> {
     ghost use Rattle.std.specs.Prelude.{length};
     ghost use Rattle.edi_rank.specs.EqualObjects.{BreaksObjectRule};
 
     ghost Breaks = { λ j. BreaksObjectRule j };
 
     ghost size = { λ j. length j.list };
-
-    fn len(&self) -> u32 {
-        self.count
-    }
 
     fn breaks(&self, rule: u16, place: u32) -> bool {
         match rule {
@@ -189,7 +109,6 @@ pub fn broken_objects(alloc: Global, sound: &Sound) -> Result<Vec<BrokenRule>, A
     let judged = JudgedObjects {
         sound,
         repeated: repeated_objects(alloc, sound)?,
-        count: sound.plan().len(),
     };
-    broken_by(alloc, &judged, 501, 501)
+    broken_by(alloc, &judged, sound.plan().len(), 501, 501)
 }

@@ -15,9 +15,6 @@ pub trait Judging {
     /// How many records there are.
     ghost size: { Self → ℕ };
 
-    fn len(&self) -> u32
-        ensures { result ≡ size self.now };
-
     /// Whether the record at a place, from 0, breaks a rule.
     fn breaks(&self, rule: u16, place: u32) -> bool
         requires { place < size self.now }
@@ -59,14 +56,16 @@ fn push_broken<J: Judging>(
     Ok(())
 }
 
-/// All that the records break, where they can break no rules but those from the first to the last.
+/// All that so many records break, where they can break no rules but those from the first to the last.
 #[tactic(auto, using(crate::proofs::NotedRules::none_yet, crate::proofs::NotedRules::next_place, crate::proofs::NotedRules::all_passed))]
 pub fn broken_by<J: Judging>(
     alloc: Global,
     records: &J,
+    count: u32,
     first: u16,
     last: u16,
 ) -> Result<Vec<BrokenRule>, AllocError>
+    requires count { count ≡ J.size records.now }
     requires rules { first ≤ last }
     requires within { last < 1000 }
     requires bounded { (rule at : ℕ) → J.Breaks records.now rule at
@@ -74,7 +73,7 @@ pub fn broken_by<J: Judging>(
     ensures { IfOk result (λ list. AreAllBroken (J.Breaks records.now) list.items) }
 {
     let mut list = Vec::new(alloc);
-    for place in 0..records.len() {
+    for place in 0..count {
         push_broken(&mut list, records, first, last, place)?;
     }
     Ok(list)

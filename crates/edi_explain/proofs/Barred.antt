@@ -36,7 +36,7 @@ front_code content s e =
     (h.spelled ∙ (ap (λ t. t ++ (s.value ++ replicate h.spaces 32)) f.spelled ∙ append_assoc s.code (s.nature ∷ s.format ∷ (48 + f.tens) ∷ (48 + f.ones) ∷ 58 ∷ []) (s.value ++ replicate h.spaces 32)))
 
 module _ (code : List ℕ) (solid : (n : ℕ) → code ≡ take 3 (replicate n 32) → ⊥) where
-  tested : (content : List ℕ) → IsFine content → has_zone code (reading_of content) ≡ bytes_eq code (take 3 content)
+  pub tested : (content : List ℕ) → IsFine content → has_zone code (reading_of content) ≡ bytes_eq code (take 3 content)
   tested content fine = go (reading_of content) refl
     where
       go : (r : Reading) → reading_of content ≡ r → has_zone code r ≡ bytes_eq code (take 3 content)
@@ -49,7 +49,7 @@ module _ (code : List ℕ) (solid : (n : ℕ) → code ≡ take 3 (replicate n 3
           same_bool _ _ (λ t. absurd cc) (λ t. absurd (solid blank.0 ((bytes_eq-Decides code (take 3 content)).0 t ∙ ap (take 3) blank.1)))
       go (Err rule) e = absurd (fine rule e)
 
-first_solid : (x : ℕ) (xs : List ℕ) (n : ℕ) → (x ≡ 32 → ⊥) → x ∷ xs ≡ take 3 (replicate n 32) → ⊥
+pub first_solid : (x : ℕ) (xs : List ℕ) (n : ℕ) → (x ≡ 32 → ⊥) → x ∷ xs ≡ take 3 (replicate n 32) → ⊥
 first_solid x xs zero other e = cc
 first_solid x xs (suc n) other e = other (ap (λ l. get_or l 0 0) e)
 

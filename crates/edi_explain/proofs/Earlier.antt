@@ -1,13 +1,16 @@
--- The earlier records that rules of topology and of objects speak of.
-use Rattle.std.proofs.Common.{◌≡◌, ◌≢◌, ◌<◌, ℕ, List, Option, None, refl, arith}
+-- The earlier records that rules speak of.
+use Rattle.std.proofs.Common.{◌≡◌, ◌≢◌, ◌-◌, ◌<◌, ℕ, List, Option, None, refl, arith}
+use Rattle.edi_record.specs.declared.fault.RecordFault.TheVariants.{Broken}
+use Rattle.edi_record.specs.declared.sheet.Sheet.{Sheet}
 use Rattle.edi_plan.specs.Plans.{PlanData}
 use Rattle.edi_schema.specs.Classes.{Classes}
 use Rattle.edi_topo.specs.TopologyRules.{BreaksTopologyRule}
 use Rattle.edi_topo.specs.TopologyRules.BreaksTopologyRule.{starts_elsewhere, ends_elsewhere, repeats_node, equals_reverse, repeats_arc, bounds_nothing}
 use Rattle.edi_rank.specs.EqualObjects.{BreaksObjectRule}
 use Rattle.edi_rank.specs.EqualObjects.BreaksObjectRule.{repeats_object}
-use Rattle.edi_compare.specs.PlanOfFile.{IsPlanOfFile}
-use Rattle.edi_explain.specs.Partners.{IsEqualNode, IsEqualObject, IsLeastIfAny, SharesPoints}
+use Rattle.edi_compare.specs.PlanOfFile.{IsPlanOfFile, IsSheetOf}
+use Rattle.edi_plan.specs.EarlierLinks.{IsEarlierLinkIfAny, IsLeastIfAny}
+use Rattle.edi_explain.specs.Partners.{IsEqualNode, IsEqualObject, SharesPoints}
 use Rattle.edi_explain.specs.EndNodes.{IsEndNodeIfAny}
 use Rattle.edi_explain.specs.Refusals.{IsEarlierIfAny}
 
@@ -75,4 +78,29 @@ no_end_node s b rule place initial final = record {
   initial = λ e. absurd (initial e);
   final = λ e. absurd (final e);
   others = λ a d. refl;
+}
+
+-- the earlier link by 307, or none by another rule of references that is found so
+pub link_earlier : (s : Classes) (b : List ℕ) (sheet : Sheet) → IsSheetOf b sheet → (rule at : ℕ) (earlier : Option ℕ) → rule < 400 → rule ≢ 301 → rule ≢ 304
+    → IsEarlierLinkIfAny s sheet.list (Broken rule at) earlier → IsEarlierIfAny s b rule (at - 1) earlier
+link_earlier s b sheet states rule at earlier below name subset found = record {
+  names = λ e. absurd (name e);
+  subsets = λ e. absurd (subset e);
+  sides = λ e. (sheet, states, found.0 e);
+  nodes = λ e. absurd (omega (arith, e, below));
+  arcs = λ e. absurd (omega (arith, e, below));
+  objects = λ e. absurd (omega (arith, e, below));
+  others = λ a d f g h i. found.1 f;
+}
+
+-- a rule of records speaks of no earlier record
+pub nothing_earlier : (s : Classes) (b : List ℕ) (rule place : ℕ) → rule < 300 → IsEarlierIfAny s b rule place None
+nothing_earlier s b rule place below = record {
+  names = λ e. absurd (omega (arith, e, below));
+  subsets = λ e. absurd (omega (arith, e, below));
+  sides = λ e. absurd (omega (arith, e, below));
+  nodes = λ e. absurd (omega (arith, e, below));
+  arcs = λ e. absurd (omega (arith, e, below));
+  objects = λ e. absurd (omega (arith, e, below));
+  others = λ a d f g h i. refl;
 }

@@ -14,7 +14,8 @@ use Rattle.edi_rank.specs.declared.keys.ObjectKey.{ObjectKey}
 use Rattle.edi_rank.specs.Pieces.{ObjectSource, object_key_at}
 use Rattle.edi_rank.proofs.ObjectKeys.{equal_one_key, one_key_equal}
 use Rattle.edi_explain.specs.inner.Objects.{AreKeyed}
-use Rattle.edi_explain.specs.Partners.{IsEqualObject, IsLeast}
+use Rattle.edi_plan.specs.EarlierLinks.{IsLeast}
+use Rattle.edi_explain.specs.Partners.{IsEqualObject}
 
 abbrev pub no_object : ObjectKey
 no_object = record { class = 0; attributes = []; extras = []; pieces = [] }

@@ -1,4 +1,3 @@
-pub mod Leasts
 pub mod Names
 pub mod Phases
 pub mod PlaceCounts
@@ -7,8 +6,6 @@ pub mod RowGroups
 pub mod HandedOn
 pub mod RowRecords
 pub mod RuleWords
-pub mod InTurn
-pub mod OneArc
 pub mod Equal
 pub mod Numbered
 pub mod ZoneFound

@@ -1,5 +1,5 @@
--- The remarks of a file, line by line.
-use Rattle.std.proofs.Common.{◌≡◌, ◌∙◌, ◌+◌, ◌++◌, ◌∷◌, inl, ℕ, Bool, true, false, cond, List, [], Some, None, Ok, Err, length, map, refl, sym, ap, subst, arith, codes, bytes_eq, nat_eq, append_assoc}
+-- The lines of a file, one by one, and which are remarks.
+use Rattle.std.proofs.Common.{◌≡◌, ◌∙◌, ◌+◌, ◌++◌, ◌∷◌, inl, ℕ, Bool, true, false, cond, List, [], Some, None, Ok, Err, length, map, refl, sym, ap, subst, arith, codes, count_by, bytes_eq, nat_eq, append_assoc}
 use Rattle.std.specs.List.{AllByRecursion, starts_with}
 use Rattle.edi_schema.proofs.Paired.{count-cons}
 use Rattle.std.proofs.lemmas.Slice.Eq.{bytes_eq-Decides}
@@ -61,19 +61,19 @@ module _ (bytes : List ℕ) (unbroken : IsUnbroken (BreaksLineRule bytes)) where
   pub all_fine : AreFine bytes
   all_fine = fine_behind [] (line_contents bytes) refl
 
--- the first line, and the remarks behind it
-pub remarks_more : (bytes line behind : List ℕ) → lines_in bytes ≡ line ∷ lines_in behind → (b : Bool) → bears is_remark (reading_of (content_of line)) ≡ b
-    → remarks_in (readings_of bytes) ≡ cond b 1 0 + remarks_in (readings_of behind)
-remarks_more bytes line behind e b f =
-    ap (λ cs. remarks_in (map reading_of cs)) (next_content bytes line behind e)
-    ∙ (count-cons (bears is_remark) (reading_of (content_of line)) (readings_of behind) ∙ ap (λ t. cond t 1 0 + remarks_in (readings_of behind)) f)
+-- the first line, and those that pass a test behind it
+pub lines_more : (test : Reading → Bool) (bytes line behind : List ℕ) → lines_of bytes ≡ line ∷ lines_of behind → (b : Bool) → test (reading_of (content_of line)) ≡ b
+    → count_by test (readings_of bytes) ≡ cond b 1 0 + count_by test (readings_of behind)
+lines_more test bytes line behind e b f =
+    ap (λ cs. count_by test (map reading_of cs)) (next_content bytes line behind e)
+    ∙ (count-cons test (reading_of (content_of line)) (readings_of behind) ∙ ap (λ t. cond t 1 0 + count_by test (readings_of behind)) f)
 
 pub fine_step : (bytes line behind : List ℕ) → lines_in bytes ≡ line ∷ lines_in behind → AreFine bytes → IsFine (content_of line) × AreFine behind
 fine_step bytes line behind e h = subst (AllByRecursion IsFine) (next_content bytes line behind e) h
 
-pub no_remarks : (bytes : List ℕ) → length bytes ≡ 0 → remarks_in (readings_of bytes) ≡ 0
-no_remarks [] e = refl
-no_remarks (x ∷ xs) e = absurd (omega (arith, e))
+pub no_lines : (test : Reading → Bool) (bytes : List ℕ) → length bytes ≡ 0 → count_by test (readings_of bytes) ≡ 0
+no_lines test [] e = refl
+no_lines test (x ∷ xs) e = absurd (omega (arith, e))
 
 pub remarks_counted : (bytes : List ℕ) (count : ℕ) → count ≡ remarks_in (readings_of bytes) → HasRemarks bytes count
 remarks_counted bytes count e = (readings_of bytes, readings_exist bytes, e)

@@ -19,7 +19,7 @@ use Rattle.edi_explain.specs.Partners.{HasEnd, SharesName}
 use Rattle.edi_explain.specs.RowPartners.{SharesRowName}
 use Rattle.edi_explain.specs.inner.RowPartners.{IsEarlierRow, IsLinked}
 use Rattle.edi_explain.proofs.Names.{same_some}
-use Rattle.edi_explain.proofs.OneArc.{one_code}
+use Rattle.edi_plan.proofs.NameLemmas.{coded_kind}
 
 some_and : {X : Type 0} (P : X → Type 0) (o : Option X) → IsSomeAnd o P → (x : X) × (o ≡ Some x) × P x
 some_and P (Some x) h = (x, refl, h)
@@ -80,7 +80,7 @@ link_has g q h some = go (is_link q.kind) refl
 
 has_link : (g : List ZoneData) (q : Record) → States g q → IsLinked g → 0 < length q.ends
 has_link g q h d =
-    let kind : q.kind ≡ Lnk = one_code q.kind Lnk (same_some (sym (ap first h.type) ∙ d.1)) in
+    let kind : q.kind ≡ Lnk = coded_kind q.kind Lnk (same_some (sym (ap first h.type) ∙ d.1)) in
     there_ends [] g q.ends d.0 d.2 (subst (λ b. AreMadeFrom (λ f z. points_at z ≡ true) IsEndAt [] (cond b g []) q.ends) (ap is_link kind) h.ends)
 
 -- ---- all of them

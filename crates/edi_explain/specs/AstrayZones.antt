@@ -6,7 +6,7 @@ use Rattle.edi_record.specs.Records.{first, values}
 use Rattle.edi_record.specs.Texts.{IsPointer, PointerText}
 use Rattle.edi_schema.specs.Classes.{Classes, place_of}
 use Rattle.edi_explain.specs.BreakingZones.{IsBreakingZone, IsBreakingZoneOf, is_typed}
-use Rattle.edi_explain.specs.Partners.{IsLeast}
+use Rattle.edi_plan.specs.EarlierLinks.{IsLeast}
 
 -- a pointer names no class of an attribute: its type isn't ATT, or its name is none of the schema's
 abbrev pub NamesNoAttribute : Classes → List ℕ → Type 0

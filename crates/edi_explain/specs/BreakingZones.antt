@@ -11,7 +11,7 @@ use Rattle.edi_record.specs.Shapes.{kind_code}
 use Rattle.edi_record.specs.Texts.{IsCount, IsPointer, IsPosition, PointerText}
 use Rattle.edi_record.specs.declared.record.Kind.{Kind}
 use Rattle.edi_record.specs.declared.record.Point.{Point}
-use Rattle.edi_explain.specs.Partners.{IsLeast}
+use Rattle.edi_plan.specs.EarlierLinks.{IsLeast}
 use Rattle.edi_explain.specs.declared.breaking.ZoneTest.{ZoneTest}
 use Rattle.edi_explain.specs.declared.breaking.ZoneTest.TheVariants.{OfCode, LastOf, BadIdentifier, NoPointer, BadClass, BadCount, BadPosition, UnknownPointer, EndOf}
 

@@ -20,7 +20,7 @@ use Rattle.edi_explain.specs.Lengths.{CountsCharacters, length_hint}
 use Rattle.edi_explain.specs.KindLines.{ExplainsKinds}
 use Rattle.edi_explain.specs.Lines.{lines_of_line, lines_of_sites, sentence_of}
 use Rattle.edi_explain.specs.Barring.{IsBarredBy}
-use Rattle.edi_explain.specs.Partners.{IsLeastIfAny}
+use Rattle.edi_plan.specs.EarlierLinks.{IsLeastIfAny}
 use Rattle.edi_explain.specs.Refusals.{IsRefusedAt, IsRowRefusedAt}
 use Rattle.edi_explain.specs.Rules.{is_among, rules}
 use Rattle.edi_explain.specs.Texts.{IsRuleText, RuleWords, SaysRule, rule_texts}

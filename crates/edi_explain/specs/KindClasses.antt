@@ -8,7 +8,7 @@ use Rattle.edi_schema.specs.Roles.{KindCodes, exchanged, role_rank}
 use Rattle.edi_schema.specs.SchemaRules.{HasRole}
 use Rattle.edi_schema.specs.declared.by_role.ByRole.{ByRole}
 use Rattle.edi_schema.specs.declared.role.Role.{Role}
-use Rattle.edi_explain.specs.Partners.{IsLeast}
+use Rattle.edi_plan.specs.EarlierLinks.{IsLeast}
 use Rattle.edi_explain.specs.declared.kind_causes.KindsCase.{KindsCase}
 use Rattle.edi_explain.specs.declared.kind_causes.KindsCase.TheVariants.{Two, Alone, Barred}
 use Rattle.edi_explain.specs.declared.kind_causes.KindsCause.{KindsCause}

@@ -10,7 +10,7 @@ use Rattle.edi_schema.specs.declared.role.Role.{Role}
 use Rattle.edi_schema.specs.declared.role.Role.TheVariants.{Initial, Final, Left, Right, Plain}
 use Rattle.edi_explain.specs.KindClasses.{IsClassBehind, IsClassOf, IsKindsCause}
 use Rattle.edi_explain.specs.Lines.{identifier_text, lines_of_sites, position_text}
-use Rattle.edi_explain.specs.Partners.{IsLeastIfAny}
+use Rattle.edi_plan.specs.EarlierLinks.{IsLeastIfAny}
 use Rattle.edi_explain.specs.Refusals.{AreSites}
 use Rattle.edi_explain.specs.Sites.{IsSiteIfAny}
 use Rattle.edi_explain.specs.declared.kind_causes.KindsCase.{KindsCase}

@@ -1,5 +1,4 @@
 -- What the public contracts do not reach: how the code goes about it, and what private contracts and proofs need.
-pub mod Arcs
 pub mod Barring
 pub mod Elsewhere
 pub mod Found
@@ -10,3 +9,4 @@ pub mod Objects
 pub mod OpenAttributes
 pub mod RowPartners
 pub mod Sites
+pub mod Skipped

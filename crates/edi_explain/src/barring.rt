@@ -4,7 +4,7 @@ ghost use Rattle.std.specs.Prelude.{◌≡◌};
 ghost use Rattle.edi_line.specs.LineRules.{BreaksLineRule};
 ghost use Rattle.edi_line.specs.Refusal.{IsLeastBroken};
 ghost use Rattle.edi_explain.specs.Barring.{IsBarredBy};
-ghost use Rattle.edi_explain.specs.Partners.{IsLeastIfAny};
+ghost use Rattle.edi_plan.specs.EarlierLinks.{IsLeastIfAny};
 ghost use Rattle.edi_explain.specs.inner.Barring.{bars_again as text_bars_again, bars_text};
 
 use crate::contents::{content, content_numbered, first_line};

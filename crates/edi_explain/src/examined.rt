@@ -1,32 +1,34 @@
 //! A sheet that is accepted; or refused, with the earlier record or the node that the rule speaks of.
 
-ghost use Rattle.std.specs.Prelude.{◌≡◌, ◌⊎◌, ◌-◌, ℕ, List, OnOk, IfOk, IfErr};
+ghost use Rattle.std.specs.Prelude.{◌≡◌, ◌⊎◌, ◌-◌, ◌<◌, ℕ, List, OnOk, IfOk, IfErr};
 ghost use Rattle.edi_line.specs.LineRules.{BreaksLineRule};
 ghost use Rattle.edi_line.specs.Refusal.{IsUnbroken};
-ghost use Rattle.edi_plan.specs.Plans.{PlanData};
+ghost use Rattle.edi_plan.specs.EarlierLinks.{IsEarlierLinkIfAny};
+ghost use Rattle.edi_plan.specs.ReferenceRules.{BreaksReferenceRule};
 ghost use Rattle.edi_record.specs.RecordRefusal.{IsRecordRefusal};
+ghost use Rattle.edi_record.specs.declared.fault.RecordFault.TheVariants.{Broken};
 ghost use Rattle.edi_record.specs.declared.sheet.Sheet.{Sheet as Sheets};
 ghost use Rattle.edi_topo.specs.TopologyRules.{BreaksTopologyRule};
 ghost use Rattle.edi_compare.specs.PlanOfFile.{IsPlanOfFile, IsSheetOf};
 ghost use Rattle.edi_compare.specs.Refused.{IsRefusal};
-ghost use Rattle.edi_compare.specs.Rules.{IsAccepted, ReferencesHold, TopologyHolds};
+ghost use Rattle.edi_compare.specs.Rules.{IsAccepted, RecordsHold, ReferencesHold, TopologyHolds};
 ghost use Rattle.edi_compare.specs.declared.fault.Fault.TheVariants.{Entry as AtRecord};
 ghost use Rattle.edi_schema.specs.Classes.{Classes};
 ghost use Rattle.edi_explain.specs.EndNodes.{IsEndNodeIfAny};
 ghost use Rattle.edi_explain.specs.Found.{IsFound};
 ghost use Rattle.edi_explain.specs.Refusals.{IsEarlierIfAny};
-ghost use Rattle.edi_explain.specs.inner.Found.{IsEarly, IsEarlyRule};
+ghost use Rattle.edi_explain.specs.inner.Found.{SpeaksOfNone};
 
 use crate::end_nodes::end_node;
 use crate::objects::equal_object;
 use crate::partner::{equal_node, same_arc};
-use crate::refused::{earlier_in_zones, earlier_record};
+use crate::refused::earlier_in_zones;
 use crate::site::zones_of;
 use edi_compare::Fault;
 use edi_line::Zone;
-use edi_plan::Plan;
+use edi_plan::{Plan, RefFault, Unplanned};
 use edi_rank::{RankFault, tell_objects_apart};
-use edi_record::read_sheet;
+use edi_record::{Sheet, read_sheet};
 use edi_schema::Schema;
 use edi_topo::{Sound, TopoFault, Unsound};
 use std::alloc::{AllocError, Global};
@@ -43,12 +45,12 @@ pub struct Found<'a> {
     pub zones: Option<Vec<Zone<'a>>>,
 }
 
-/// Want of memory.
-fn no_memory<'a>(error: AllocError) -> Found<'a>
-    ensures { (s : Classes) (b : List ℕ) → IsFound s b result }
+/// A refusal that speaks of no other record.
+fn found_alone<'a>(fault: Fault) -> Found<'a>
+    ensures { (s : Classes) (b : List ℕ) → IsRefusal s b fault → SpeaksOfNone fault → IsFound s b result }
 {
     Found {
-        fault: Fault::Memory(error),
+        fault,
         earlier: None,
         node: None,
         zones: None,
@@ -73,7 +75,7 @@ fn found_at<'a>(
             node,
             zones: None,
         },
-        Err(error) => no_memory(error),
+        Err(error) => found_alone(Fault::Memory(error)),
     }
 }
 
@@ -91,66 +93,80 @@ fn found_in_zones<'a>(alloc: Global, bytes: &'a [u8], rule: u16, at: u64) -> Fou
             node: None,
             zones: Some(zones),
         },
-        Err(error) => no_memory(error),
+        Err(error) => found_alone(Fault::Memory(error)),
     }
 }
 
-/// The refusal at a record by a rule of records or of references, with the earlier record that the rule speaks of.
-fn found_early<'a>(alloc: Global, schema: &Schema, bytes: &'a [u8], rule: u16, at: u64) -> Found<'a>
-    requires refusal { IsRefusal schema.now bytes.now (AtRecord rule at) }
-    requires early { IsEarlyRule bytes.now rule }
-    ensures { IsFound schema.now bytes.now result }
+/// The refusal at a record by a rule of references, of 307 with this earlier link.
+fn found_early<'a>(
+    alloc: Global,
+    bytes: &'a [u8],
+    rule: u16,
+    at: u64,
+    earlier: Option<u64>,
+) -> Found<'a>
+    requires { IsUnbroken (BreaksLineRule bytes.now) }
+    ensures { (s : Classes) (sheet : Sheets) → rule < 400 → IsSheetOf bytes.now sheet
+        → IsRefusal s bytes.now (AtRecord rule at) → IsEarlierLinkIfAny s sheet.list (Broken rule at) earlier
+        → IsFound s bytes.now result }
 {
     match rule {
         301 | 304 => found_in_zones(alloc, bytes, rule, at),
-        _ => {
-            let earlier = earlier_record(alloc, schema, bytes, rule, at);
-            found_at(rule, at, earlier, None)
-        }
+        _ => found_at(rule, at, Ok(earlier), None),
     }
 }
 
-/// A refusal by a rule of lines, of records or of references with the earlier record that the rule speaks of.
-fn found_anew<'a>(alloc: Global, schema: &Schema, bytes: &'a [u8], fault: Fault) -> Found<'a>
-    requires refusal { IsRefusal schema.now bytes.now fault }
-    requires early { IsEarly bytes.now fault }
-    ensures { IsFound schema.now bytes.now result }
+/// The refusal of a sheet by a fault of its references.
+fn found_unplanned<'a>(
+    alloc: Global,
+    schema: &Schema,
+    bytes: &'a [u8],
+    unplanned: Unplanned,
+) -> Found<'a>
+    requires { RecordsHold schema.now bytes.now }
+    ensures { (sheet : Sheets) → IsSheetOf bytes.now sheet
+        → IsRecordRefusal (BreaksReferenceRule schema.now sheet.list) unplanned.fault
+        → IsEarlierLinkIfAny schema.now sheet.list unplanned.fault unplanned.earlier
+        → IsFound schema.now bytes.now result }
 {
+    let _ = schema;
+    let Unplanned { fault, earlier } = unplanned;
     match fault {
-        Fault::Memory(error) => no_memory(error),
-        Fault::Line { rule, at } => Found {
-            fault: Fault::Line { rule, at },
-            earlier: None,
-            node: None,
-            zones: None,
-        },
-        Fault::Entry { rule, at } => found_early(alloc, schema, bytes, rule, at),
+        RefFault::Memory(error) => found_alone(Fault::Memory(error)),
+        RefFault::Broken { rule, at } => found_early(alloc, bytes, rule, at, earlier),
     }
-}
-
-/// The plan of a sheet that breaks no rule of lines, records or references.
-fn plan_or_fault(alloc: Global, schema: &Schema, bytes: &[u8]) -> Result<Plan, Fault>
-    ensures held { OnOk result (ReferencesHold schema.now bytes.now) }
-    ensures plan { IfOk result (IsPlanOfFile schema.now bytes.now) }
-    ensures refusal { IfErr result (IsRefusal schema.now bytes.now) }
-    ensures early { IfErr result (IsEarly bytes.now) }
-{
-    let sheet = read_sheet(alloc, bytes)?;
-    let plan = Plan::build(alloc, schema, sheet)?;
-    Ok(plan)
 }
 
 /// The plan of a sheet, if no rule is broken; or why it is refused, with the earlier record or the node that the rule
-/// speaks of. It answers as `accept` does. The file is read once; for 307, of which no plan is left, once more; and for
-/// 301 and 304 its zones are.
+/// speaks of. It answers as `accept` does. The file is read once; for 301 and 304, of which no plan is left, its zones
+/// are too.
 pub fn examine<'a>(alloc: Global, schema: &Schema, bytes: &'a [u8]) -> Result<Sound, Found<'a>>
     ensures accepted { OnOk result (IsAccepted schema.now bytes.now) }
     ensures plan { IfOk result (IsPlanOfFile schema.now bytes.now) }
     ensures found { IfErr result (IsFound schema.now bytes.now) }
 {
-    match plan_or_fault(alloc, schema, bytes) {
+    match read_sheet(alloc, bytes) {
+        Ok(sheet) => sheet_examined(alloc, schema, bytes, sheet),
+        Err(fault) => Err(found_alone(Fault::from(fault))),
+    }
+}
+
+/// The same of a sheet that breaks no rule of records.
+fn sheet_examined<'a>(
+    alloc: Global,
+    schema: &Schema,
+    bytes: &'a [u8],
+    sheet: Sheet,
+) -> Result<Sound, Found<'a>>
+    requires held { RecordsHold schema.now bytes.now }
+    requires sheet { IsSheetOf bytes.now sheet }
+    ensures accepted { OnOk result (IsAccepted schema.now bytes.now) }
+    ensures plan { IfOk result (IsPlanOfFile schema.now bytes.now) }
+    ensures found { IfErr result (IsFound schema.now bytes.now) }
+{
+    match Plan::build_with_earlier(alloc, schema, sheet) {
         Ok(plan) => plan_examined(alloc, schema, bytes, plan),
-        Err(fault) => Err(found_anew(alloc, schema, bytes, fault)),
+        Err(unplanned) => Err(found_unplanned(alloc, schema, bytes, unplanned)),
     }
 }
 
@@ -206,7 +222,7 @@ fn found_in_plan<'a>(
     let _ = schema;
     let _ = bytes;
     match fault {
-        TopoFault::Memory(error) => no_memory(error),
+        TopoFault::Memory(error) => found_alone(Fault::Memory(error)),
         TopoFault::Broken { rule, at } => {
             let place = at.saturating_sub(1);
             let earlier = earlier_in_plan(alloc, plan, rule, place);
@@ -232,7 +248,7 @@ fn objects_examined<'a>(
     let _ = bytes;
     match tell_objects_apart(alloc, &sound) {
         Ok(()) => Ok(sound),
-        Err(RankFault::Memory(error)) => Err(no_memory(error)),
+        Err(RankFault::Memory(error)) => Err(found_alone(Fault::Memory(error))),
         Err(RankFault::Broken { rule, at }) => {
             let earlier = equal_object(alloc, sound.plan(), at.saturating_sub(1));
             Err(found_at(rule, at, earlier, None))

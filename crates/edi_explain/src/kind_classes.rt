@@ -5,7 +5,7 @@ ghost use Rattle.edi_line.specs.ZoneData.{entries};
 ghost use Rattle.edi_line.specs.Zones.{groups_of};
 ghost use Rattle.edi_schema.specs.Roles.{role_by, role_coded};
 ghost use Rattle.edi_explain.specs.KindClasses.{IsClassBehind, codes_of};
-ghost use Rattle.edi_explain.specs.Partners.{IsLeastIfAny};
+ghost use Rattle.edi_plan.specs.EarlierLinks.{IsLeastIfAny};
 ghost use Rattle.edi_explain.specs.inner.KindClasses.{StatesClassOf};
 
 use edi_line::Zone;

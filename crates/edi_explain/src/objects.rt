@@ -6,7 +6,8 @@ ghost use Rattle.edi_plan.specs.Places.{places_of};
 ghost use Rattle.edi_rank.specs.Labelling.{NumbersEach};
 ghost use Rattle.edi_rank.specs.Pieces.{object_key_at};
 ghost use Rattle.edi_explain.specs.inner.Objects.{AreKeyed};
-ghost use Rattle.edi_explain.specs.Partners.{IsEqualObject, IsLeastIfAny};
+ghost use Rattle.edi_plan.specs.EarlierLinks.{IsLeastIfAny};
+ghost use Rattle.edi_explain.specs.Partners.{IsEqualObject};
 
 use edi_plan::Plan;
 use edi_rank::{ObjectKey, ObjectLayer};

@@ -5,7 +5,8 @@ ghost use Rattle.edi_record.specs.declared.record.Kind.TheVariants.{Pno};
 ghost use Rattle.edi_plan.specs.Plans.{IsPlace, record_at};
 ghost use Rattle.edi_topo.specs.NodeKeys.{node_key};
 ghost use Rattle.edi_topo.specs.TopologyRules.{AreEqualNodes};
-ghost use Rattle.edi_explain.specs.Partners.{IsEqualNode, IsLeastIfAny, SharesPoints};
+ghost use Rattle.edi_plan.specs.EarlierLinks.{IsLeastIfAny};
+ghost use Rattle.edi_explain.specs.Partners.{IsEqualNode, SharesPoints};
 
 use edi_plan::Plan;
 use edi_record::Kind;

@@ -1,24 +1,17 @@
 //! The record that a refusal names, and the earlier one that its rule speaks of.
 
-ghost use Rattle.std.specs.Prelude.{◌≡◌, ◌≢◌, ◌⊎◌, ◌-◌, ◌<◌, ℕ, List, Option, IfOk};
+ghost use Rattle.std.specs.Prelude.{◌≡◌, ◌⊎◌, ℕ, List, Option, IfOk};
 ghost use Rattle.edi_line.specs.ZoneData.{ZoneData, entries};
-ghost use Rattle.edi_line.specs.LineRules.{BreaksLineRule, IsZonesOf};
-ghost use Rattle.edi_line.specs.Refusal.{IsUnbroken};
+ghost use Rattle.edi_line.specs.LineRules.{IsZonesOf};
 ghost use Rattle.edi_record.specs.declared.sheet.Sheet.{Sheet as Sheets};
 ghost use Rattle.edi_compare.specs.PlanOfFile.{IsSheetOf};
-ghost use Rattle.edi_compare.specs.Refused.{IsRefusal};
-ghost use Rattle.edi_compare.specs.Rules.{RecordsHold};
-ghost use Rattle.edi_compare.specs.declared.fault.Fault.TheVariants.{Entry as AtRecord};
 ghost use Rattle.edi_schema.specs.Classes.{Classes};
 ghost use Rattle.edi_explain.specs.Refusals.{AreSites, IsEarlierIfAny, IsEarlierRowIfAny};
 ghost use Rattle.edi_explain.specs.inner.Found.{AreFound};
 
-use crate::links::same_side;
 use crate::rows::{first_link, row_namesake};
 use crate::site::{RecordSite, record_at, site_if_found};
-use edi_line::{LineFault, Zone};
-use edi_record::{RecordFault, Sheet, SheetFault, read_sheet};
-use edi_schema::Schema;
+use edi_line::Zone;
 use std::alloc::{AllocError, Global};
 
 /// Where the record of a refusal stands, and the earlier record that its rule speaks of.
@@ -35,21 +28,6 @@ pub(crate) struct FoundRecords<'a, 'b> {
     pub(crate) earlier: Option<&'b [Zone<'a>]>,
 }
 
-/// The records of a file that breaks no rule of lines or records.
-fn sheet_of(alloc: Global, schema: &Schema, bytes: &[u8]) -> Result<Sheet, AllocError>
-    requires { RecordsHold schema.now bytes.now }
-    ensures { IfOk result (IsSheetOf bytes.now) }
-{
-    let _ = schema;
-    match read_sheet(alloc, bytes) {
-        Ok(sheet) => Ok(sheet),
-        Err(SheetFault::Line(LineFault::Memory(error))) => Err(error),
-        Err(SheetFault::Record(RecordFault::Memory(error))) => Err(error),
-        Err(SheetFault::Line(LineFault::Broken { .. })) => unreachable!(),
-        Err(SheetFault::Record(RecordFault::Broken { .. })) => unreachable!(),
-    }
-}
-
 /// The earlier record that a rule of references speaks of among the zones of a sheet: by its name, or by its subset.
 pub(crate) fn earlier_in_zones(zones: &[Zone<'_>], rule: u16, place: u64) -> Option<u64>
     requires { (rule ≡ 301) ⊎ (rule ≡ 304) }
@@ -60,30 +38,6 @@ pub(crate) fn earlier_in_zones(zones: &[Zone<'_>], rule: u16, place: u64) -> Opt
         row_namesake(zones, place)
     } else {
         first_link(zones, place)
-    }
-}
-
-/// The earlier record that another rule of lines, of records or of references speaks of: the link of the same side of an
-/// arc for 307, for which the file is read once more; `None` where the rule speaks of none.
-pub(crate) fn earlier_record(
-    alloc: Global,
-    schema: &Schema,
-    bytes: &[u8],
-    rule: u16,
-    number: u64,
-) -> Result<Option<u64>, AllocError>
-    requires refusal { IsRefusal schema.now bytes.now (AtRecord rule number) }
-    requires early { rule < 400 }
-    requires name { rule ≢ 301 }
-    requires subset { rule ≢ 304 }
-    ensures { IfOk result (IsEarlierIfAny schema.now bytes.now rule (number - 1)) }
-{
-    match rule {
-        307 => {
-            let sheet = sheet_of(alloc, schema, bytes)?;
-            Ok(same_side(schema, &sheet.list, number.saturating_sub(1)))
-        }
-        _ => Ok(None),
     }
 }
 

@@ -6,7 +6,7 @@ ghost use Rattle.edi_line.specs.Zones.{groups_of};
 ghost use Rattle.edi_record.specs.Records.{values, first};
 ghost use Rattle.edi_record.specs.declared.name.Name.{Name};
 ghost use Rattle.edi_schema.specs.SchemaOf.{IsNamed};
-ghost use Rattle.edi_explain.specs.Partners.{IsLeastIfAny};
+ghost use Rattle.edi_plan.specs.EarlierLinks.{IsLeastIfAny};
 ghost use Rattle.edi_explain.specs.RowPartners.{SharesRowName};
 ghost use Rattle.edi_explain.specs.inner.RowPartners.{IsEarlierRow, IsLinked, PassesRow, name_in};
 

@@ -1,54 +1,28 @@
 //! What the reader leaves out of a sheet.
 
-ghost use Rattle.std.specs.Prelude.{◌≡◌, ◌++◌, IfOk, IfErr, OnOk, codes, count_by, nat_eq};
+ghost use Rattle.std.specs.Prelude.{◌≡◌, ◌++◌, IfOk, OnOk, codes, if◌then◌else◌, nat_eq};
 ghost use Rattle.std.specs.List.{starts_with};
-ghost use Rattle.edi_line.specs.ZoneData.{entries};
 ghost use Rattle.edi_line.specs.LineRules.{BreaksLineRule};
-ghost use Rattle.edi_line.specs.Refusal.{IsLineRefusal, IsUnbroken};
-ghost use Rattle.edi_explain.specs.Skipped.{DescribesSkipped, HasQuality, HasRemarks, is_quality, left_out_line, quality_count};
+ghost use Rattle.edi_line.specs.Refusal.{IsUnbroken};
+ghost use Rattle.edi_explain.specs.Skipped.{DescribesSkipped, HasQuality, HasRemarks, left_out_line};
+ghost use Rattle.edi_explain.specs.inner.Skipped.{is_quality_content};
 
 use crate::contents::{content, first_line};
-use edi_line::{GroupOut, LineFault, Zone, push_number, read_groups};
+use edi_line::push_number;
 use std::alloc::{AllocError, Global};
 
-/// How many zones of quality have come.
+/// How many zones of quality (QAC, QAP) the records of a file have, and how many of its lines are remarks (REM).
 #[derive(Drop)]
-struct QualityCount {
-    count: u64,
+struct LeftOut {
+    quality: u64,
+    remarks: u64,
 }
 
-/// How many zones of a record are of quality.
-fn quality_in(group: &[Zone<'_>]) -> usize
-    ensures { result ≡ count_by is_quality (entries group.now) }
+/// Whether a content is that of a zone of quality.
+fn is_quality(content: &[u8]) -> bool
+    ensures { result ≡ is_quality_content content.now }
 {
-    group
-        .iter()
-        .filter(|zone| zone.code == *b"QAC" || zone.code == *b"QAP")
-        .count()
-}
-
-impl GroupOut for QualityCount {
-    ghost Holds = { λ s groups. s.count ≡ quality_count groups };
-
-    fn take(&mut self, _alloc: Global, group: &[Zone<'_>]) -> Result<(), AllocError> {
-        match self.count.checked_add(quality_in(group) as u64) {
-            Some(count) => self.count = count,
-            None => return Err(AllocError),
-        }
-        Ok(())
-    }
-}
-
-/// How many zones of quality (QAC, QAP) the records of a file have, which are read and not compared; or the file's
-/// first broken rule of lines.
-pub fn quality_zones(alloc: Global, bytes: &[u8]) -> Result<u64, LineFault>
-    ensures count { IfOk result (HasQuality bytes.now) }
-    ensures sound { OnOk result (IsUnbroken (BreaksLineRule bytes.now)) }
-    ensures least { IfErr result (IsLineRefusal (BreaksLineRule bytes.now)) }
-{
-    let mut zones = QualityCount { count: 0 };
-    read_groups(alloc, bytes, &mut zones)?;
-    Ok(zones.count)
+    content.starts_with(b"QAC") || content.starts_with(b"QAP")
 }
 
 /// Whether a content is that of a remark.
@@ -58,21 +32,29 @@ fn is_remark(content: &[u8]) -> bool
     content.starts_with(b"REM")
 }
 
-/// How many lines of a file are remarks (REM), which are read and not compared, where it breaks no rule of lines.
-pub fn remark_lines(bytes: &[u8]) -> u64
-    requires { IsUnbroken (BreaksLineRule bytes.now) }
-    ensures { HasRemarks bytes.now result }
+fn one_if(counts: bool) -> u64
+    ensures { result ≡ (if counts then 1 else 0) }
 {
-    let mut count = 0;
+    if counts { 1 } else { 0 }
+}
+
+/// What is read of a file and not compared, where it breaks no rule of lines.
+fn left_out(bytes: &[u8]) -> LeftOut
+    requires { IsUnbroken (BreaksLineRule bytes.now) }
+    ensures quality { HasQuality bytes.now result.quality }
+    ensures remarks { HasRemarks bytes.now result.remarks }
+{
+    let mut quality = 0;
+    let mut remarks = 0;
     let mut rest = bytes;
     while !rest.is_empty() {
         let (line, behind) = first_line(rest);
-        if is_remark(content(line)) {
-            count += 1;
-        }
+        let own = content(line);
+        quality += one_if(is_quality(own));
+        remarks += one_if(is_remark(own));
         rest = behind;
     }
-    count
+    LeftOut { quality, remarks }
 }
 
 /// Appends how many of something are left out.
@@ -90,13 +72,9 @@ pub fn describe_skipped(alloc: Global, bytes: &[u8]) -> Result<Vec<u8>, AllocErr
     requires { IsUnbroken (BreaksLineRule bytes.now) }
     ensures { IfOk result (λ lines. DescribesSkipped bytes.now lines.items) }
 {
-    let zones = match quality_zones(alloc, bytes) {
-        Ok(count) => count,
-        Err(LineFault::Memory(error)) => return Err(error),
-        Err(LineFault::Broken { .. }) => unreachable!(),
-    };
+    let left_out = left_out(bytes);
     let mut lines = Vec::new(alloc);
-    push_left_out(&mut lines, b"quality zones", zones)?;
-    push_left_out(&mut lines, b"remarks", remark_lines(bytes))?;
+    push_left_out(&mut lines, b"quality zones", left_out.quality)?;
+    push_left_out(&mut lines, b"remarks", left_out.remarks)?;
     Ok(lines)
 }

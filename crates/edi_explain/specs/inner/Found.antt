@@ -1,22 +1,16 @@
--- What is found of a refusal before it is explained: which rules may be broken, and the zones of its records.
-use Rattle.std.specs.Prelude.{◌≡◌, ◌<◌, ◌⊎◌, ⊤, ℕ, zero, suc, List, Option, Some, None, option_map, slice_get}
+-- What is found of a refusal before it is explained: which faults speak of no other record, and the zones of its records.
+use Rattle.std.specs.Prelude.{◌≡◌, ◌<◌, ⊤, ℕ, zero, suc, List, Option, Some, None, option_map, slice_get}
 use Rattle.edi_line.specs.ZoneData.{ZoneData, entries}
 use Rattle.edi_line.specs.Zones.{groups_of}
-use Rattle.edi_record.specs.declared.sheet.Sheet.{Sheet}
-use Rattle.edi_compare.specs.PlanOfFile.{IsSheetOf}
 use Rattle.edi_compare.specs.declared.fault.Fault.{Fault}
 use Rattle.edi_compare.specs.declared.fault.Fault.TheVariants.{Memory, Line, Entry as AtRecord}
 use Rattle.edi_explain.specs.declared.refused.FoundRecords.{FoundRecords}
 
--- a rule of records; or one of references, and the file states a sheet
-abbrev pub IsEarlyRule : List ℕ → ℕ → Type 0
-IsEarlyRule b rule = (rule < 300) ⊎ ((rule < 400) × ((sheet : Sheet) × IsSheetOf b sheet))
-
--- a fault by a rule of lines, or by such a rule
-abbrev pub IsEarly : List ℕ → Fault → Type 0
-IsEarly b (Memory e) = ⊤
-IsEarly b (Line rule at) = ⊤
-IsEarly b (AtRecord rule at) = IsEarlyRule b rule
+-- want of memory, or a fault by a rule of lines or of records, which speaks of no other record
+abbrev pub SpeaksOfNone : Fault → Type 0
+SpeaksOfNone (Memory e) = ⊤
+SpeaksOfNone (Line rule at) = ⊤
+SpeaksOfNone (AtRecord rule at) = rule < 300
 
 -- the zones of the record with this number, from 1, if it is one of these
 abbrev pub group_numbered : List (List ZoneData) → ℕ → Option (List ZoneData)

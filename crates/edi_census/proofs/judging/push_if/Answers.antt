@@ -1,8 +1,5 @@
-use Rattle.std.proofs.Common.{◌≡◌, ◌+◌, Bool, true, false, List, refl, sym, ap, subst}
+use Rattle.std.proofs.Common.{◌+◌, refl, ap}
 use Rattle.std.proofs.lemmas.Result.{IfOk-weaker}
-use Rattle.edi_line.specs.AllBroken.{AreAllBroken}
-use Rattle.edi_line.specs.declared.broken.BrokenRule.{BrokenRule}
-use Rattle.edi_census.specs.inner.Judging.{BreaksBefore}
 use Rattle.edi_census.proofs.NotedRules.{put_if}
 use Rattle.edi_census.proofs.judging.push_if.Goals as goal
 

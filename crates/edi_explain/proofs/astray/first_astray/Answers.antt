@@ -3,7 +3,7 @@ use Rattle.std.proofs.lemmas.List.{length-map}
 use Rattle.std.proofs.lemmas.Option.{slice_get_within}
 use Rattle.edi_line.specs.ZoneData.{entries, entry}
 use Rattle.edi_explain.specs.AstrayZones.{IsAstray, IsAstrayAt}
-use Rattle.edi_explain.proofs.Leasts.{least_here, none_here}
+use Rattle.edi_plan.proofs.Leasts.{least_here, none_here}
 use Rattle.edi_explain.proofs.Passing.{same_entry, zone_there}
 use Rattle.edi_explain.proofs.astray.first_astray.Goals as goal
 

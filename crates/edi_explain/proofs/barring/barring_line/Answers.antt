@@ -3,7 +3,7 @@ use Rattle.std.proofs.lemmas.Bool.{cases_lt}
 use Rattle.edi_line.specs.inner.Lines.{line_contents}
 use Rattle.edi_explain.specs.Barring.{IsBarredBy}
 use Rattle.edi_explain.proofs.Barred.{barred, empty_contents, next_content, no_bars, no_such_line, text_bars}
-use Rattle.edi_explain.proofs.Leasts.{least_here, none_here}
+use Rattle.edi_plan.proofs.Leasts.{least_here, none_here}
 use Rattle.edi_explain.proofs.barring.barring_line.Goals as goal
 use Rattle.edi_explain.proofs.barring.barring_line.Goals.{else-rule-ne107-via-then-rule-ne107+else-rule-ne108, else-rule-ne107-via-else-rule-ne107}
 

@@ -6,7 +6,7 @@ use Rattle.edi_record.proofs.StatesSaid.{open_more, open_none}
 use Rattle.edi_explain.specs.BreakingZones.{PassesAt}
 use Rattle.edi_explain.specs.inner.OpenAttributes.{LeavesOpen}
 use Rattle.edi_explain.proofs.ExtraZonesOf.{entries_more}
-use Rattle.edi_explain.proofs.Leasts.{least_here, none_here}
+use Rattle.edi_plan.proofs.Leasts.{least_here, none_here}
 use Rattle.edi_explain.proofs.Passing.{zone_there}
 use Rattle.edi_explain.proofs.breaking.first_passing.Goals as goal
 

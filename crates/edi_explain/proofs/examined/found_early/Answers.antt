@@ -1,24 +1,15 @@
-use Rattle.std.proofs.Common.{◌-◌, ◌≤◌, arith, ⊎_elim}
-use Rattle.edi_explain.proofs.Earlier.{no_end_node}
-use Rattle.edi_explain.proofs.Phases.{early_below, lines_hold, sheet_there}
+use Rattle.std.proofs.Common.{◌≢◌, ◌-◌, arith, rules}
+use Rattle.edi_explain.proofs.Earlier.{link_earlier, no_end_node}
 use Rattle.edi_explain.proofs.examined.found_early.Goals as goal
 
-pub found_in_zones-requires-clause-lines : goal.found_in_zones-requires-clause-lines
-found_in_zones-requires-clause-lines c = lines_hold c.args.schema.now c.args.bytes.now c.args.rule c.args.at c.requires.refusal
-
 pub returns-in-301 : goal.returns-in-301
-returns-in-301 c =
-    let big : 300 ≤ c.args.rule = ⊎_elim (λ e. omega (arith, e)) (λ e. omega (arith, e)) c.in-301.is in
-    let sheet = sheet_there c.args.bytes.now c.args.rule big c.requires.early in
-    c.found_in_zones.ensures c.args.schema.now sheet.0 sheet.1 c.requires.refusal
-
-pub earlier_record-earlier-requires-clause-early : goal.earlier_record-earlier-requires-clause-early
-earlier_record-earlier-requires-clause-early c = early_below c.args.bytes.now c.args.rule c.requires.early
+returns-in-301 c = λ s sheet below states refusal link. c.found_in_zones.ensures s sheet states refusal
 
 pub returns-in_default : goal.returns-in_default
-returns-in_default c =
-    let s = c.args.schema.now in
+returns-in_default c = λ s sheet below states refusal link.
     let b = c.args.bytes.now in
-    let early = early_below b c.args.rule c.requires.early in
-    c.found_at.ensures s b c.requires.refusal c.earlier_record-earlier.ensures
-    (no_end_node s b c.args.rule (c.args.at - 1) (λ e. omega (arith, e, early)) (λ e. omega (arith, e, early)))
+    let rule = c.args.rule in
+    let name : rule ≢ 301 = search rules in
+    let subset : rule ≢ 304 = search rules in
+    c.found_at.ensures s b refusal (link_earlier s b sheet states rule c.args.at c.args.earlier below name subset link)
+    (no_end_node s b rule (c.args.at - 1) (λ e. omega (arith, e, below)) (λ e. omega (arith, e, below)))

@@ -8,7 +8,7 @@ use Rattle.edi_explain.specs.Refusals.{IsEarlierIfAny}
 use Rattle.edi_explain.proofs.examined.found_in_plan.Goals as goal
 
 pub returns-in-Memory : goal.returns-in-Memory
-returns-in-Memory c = c.no_memory.ensures c.args.schema.now c.args.bytes.now
+returns-in-Memory c = c.found_alone.ensures c.args.schema.now c.args.bytes.now tt tt
 
 pub returns-in-Broken : goal.returns-in-Broken
 returns-in-Broken c =

@@ -19,4 +19,4 @@ returns-in-Ok c = λ s sheet states refusal.
     )
 
 pub returns-in-Err : goal.returns-in-Err
-returns-in-Err c = λ s sheet states refusal. c.no_memory.ensures s c.args.bytes.now
+returns-in-Err c = λ s sheet states refusal. c.found_alone.ensures s c.args.bytes.now tt tt

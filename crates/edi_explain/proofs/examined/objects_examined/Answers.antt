@@ -4,7 +4,8 @@ use Rattle.edi_plan.specs.Plans.{PlanData}
 use Rattle.edi_rank.specs.EqualObjects.{BreaksObjectRule}
 use Rattle.edi_record.specs.RecordRefusal.{IsRecordRefusal}
 use Rattle.edi_compare.proofs.Phases.{all_held, object_refusal}
-use Rattle.edi_explain.specs.Partners.{IsEqualObject, IsLeastIfAny}
+use Rattle.edi_plan.specs.EarlierLinks.{IsLeastIfAny}
+use Rattle.edi_explain.specs.Partners.{IsEqualObject}
 use Rattle.edi_explain.proofs.Earlier.{no_end_node, object_earlier, object_rule}
 use Rattle.edi_explain.proofs.examined.objects_examined.Goals as goal
 
@@ -12,7 +13,7 @@ pub returns-in-Ok-clause-accepted : goal.returns-in-Ok-clause-accepted
 returns-in-Ok-clause-accepted c = all_held c.args.schema.now c.args.bytes.now c.requires.held c.args.sound c.requires.plan c.in-Ok.ensures.distinct
 
 pub returns-in-Err-Memory-clause-found : goal.returns-in-Err-Memory-clause-found
-returns-in-Err-Memory-clause-found c = c.no_memory.ensures c.args.schema.now c.args.bytes.now
+returns-in-Err-Memory-clause-found c = c.found_alone.ensures c.args.schema.now c.args.bytes.now tt tt
 
 pub returns-clause-found : goal.returns-clause-found
 returns-clause-found c =

@@ -3,7 +3,7 @@ use Rattle.edi_line.specs.ZoneData.{entries}
 use Rattle.edi_line.specs.Zones.{groups_of}
 use Rattle.edi_explain.specs.KindClasses.{IsClassBehind, codes_of}
 use Rattle.edi_explain.proofs.KindRows.{class_here, none_left, states_here}
-use Rattle.edi_explain.proofs.Leasts.{least_here, none_here}
+use Rattle.edi_plan.proofs.Leasts.{least_here, none_here}
 use Rattle.edi_explain.proofs.RowGroups.{here_left, next_left}
 use Rattle.edi_explain.proofs.kind_classes.class_behind.Goals as goal
 use Rattle.edi_explain.proofs.kind_classes.class_behind.Goals.{else-number-behind-via-then-number-behind+else-states_class, else-number-behind-via-else-number-behind}

@@ -3,7 +3,7 @@ use Rattle.std.proofs.lemmas.Result.{IfOk-weaker}
 use Rattle.edi_line.specs.ZoneData.{entries}
 use Rattle.edi_line.specs.Zones.{groups_of}
 use Rattle.edi_explain.specs.KindClasses.{IsClassBehind, codes_of}
-use Rattle.edi_explain.specs.Partners.{IsLeastIfAny}
+use Rattle.edi_plan.specs.EarlierLinks.{IsLeastIfAny}
 use Rattle.edi_explain.specs.Sites.{IsSiteIfAny}
 use Rattle.edi_explain.proofs.Numbered.{numbered_back}
 use Rattle.edi_explain.proofs.kind_lines.class_site.Goals as goal

@@ -3,7 +3,7 @@ use Rattle.std.specs.Prelude.{◌↔◌, IsTrue, is_some}
 use Rattle.edi_line.specs.ZoneData.{entries}
 use Rattle.edi_line.specs.Zones.{groups_of}
 use Rattle.edi_explain.specs.KindClasses.{codes_of}
-use Rattle.edi_explain.specs.Partners.{IsLeast}
+use Rattle.edi_plan.specs.EarlierLinks.{IsLeast}
 use Rattle.edi_explain.proofs.KindRows.{behind_all}
 use Rattle.edi_explain.proofs.kind_lines.has_none.Goals as goal
 

@@ -3,7 +3,7 @@ use Rattle.std.proofs.lemmas.List.{length-map}
 use Rattle.std.proofs.lemmas.Option.{slice_get_within}
 use Rattle.edi_line.specs.ZoneData.{ZoneData, entries, entry, has_code}
 use Rattle.edi_explain.specs.AstrayZones.{IsLostEndAt, NamesNoElement}
-use Rattle.edi_explain.proofs.Leasts.{least_here, none_here}
+use Rattle.edi_plan.proofs.Leasts.{least_here, none_here}
 use Rattle.edi_explain.proofs.Passing.{same_entry, zone_there}
 use Rattle.edi_explain.proofs.lost_ends.first_lost_end.Goals as goal
 

@@ -3,7 +3,8 @@ use Rattle.std.proofs.lemmas.Result.{IfOk-weaker}
 use Rattle.edi_record.specs.declared.record.Kind.TheVariants.{Fea}
 use Rattle.edi_plan.specs.Places.{places_of}
 use Rattle.edi_plan.proofs.PlaceLemmas.{places_few}
-use Rattle.edi_explain.specs.Partners.{IsEqualObject, IsLeastIfAny}
+use Rattle.edi_plan.specs.EarlierLinks.{IsLeastIfAny}
+use Rattle.edi_explain.specs.Partners.{IsEqualObject}
 use Rattle.edi_explain.proofs.Equal.{no_such_object}
 use Rattle.edi_explain.proofs.objects.equal_object.Goals as goal
 

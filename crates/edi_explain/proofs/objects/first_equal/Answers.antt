@@ -3,7 +3,8 @@ use Rattle.edi_record.specs.declared.record.Kind.TheVariants.{Fea}
 use Rattle.edi_plan.specs.Places.{places_of}
 use Rattle.edi_plan.specs.Plans.{PlanData}
 use Rattle.edi_rank.specs.Pieces.{ObjectSource, object_key_at}
-use Rattle.edi_explain.specs.Partners.{IsEqualObject, IsLeast}
+use Rattle.edi_plan.specs.EarlierLinks.{IsLeast}
+use Rattle.edi_explain.specs.Partners.{IsEqualObject}
 use Rattle.edi_explain.proofs.Equal.{object_place, equal_by_key, key_of_equal, more_not_equal, least_equal, none_equal_before}
 use Rattle.edi_explain.proofs.objects.first_equal.Goals as goal
 

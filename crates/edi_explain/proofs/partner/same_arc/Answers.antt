@@ -1,6 +1,7 @@
 use Rattle.std.proofs.Common.{arith, subst, sym}
-use Rattle.edi_explain.specs.Partners.{IsLeast, SharesPoints}
-use Rattle.edi_explain.proofs.Leasts.{least_here, none_here}
+use Rattle.edi_plan.specs.EarlierLinks.{IsLeast}
+use Rattle.edi_explain.specs.Partners.{SharesPoints}
+use Rattle.edi_plan.proofs.Leasts.{least_here, none_here}
 use Rattle.edi_explain.proofs.partner.same_arc.Goals as goal
 
 pub returns-then-share_points : goal.returns-then-share_points

@@ -4,7 +4,7 @@ use Rattle.edi_line.specs.ZoneData.{ZoneData, entries}
 use Rattle.edi_line.specs.Zones.{groups_of}
 use Rattle.edi_line.proofs.ZonesSaid.{zones_of_one}
 use Rattle.edi_record.specs.Records.{States}
-use Rattle.edi_explain.proofs.Leasts.{least_as}
+use Rattle.edi_plan.proofs.Leasts.{least_as}
 use Rattle.edi_explain.proofs.RowRecords.{end_links, link_ends, names_shared, rows_shared}
 use Rattle.edi_explain.proofs.refused.earlier_in_zones.Goals as goal
 

@@ -2,7 +2,7 @@ use Rattle.std.proofs.Common.{◌<◌, sym, arith}
 use Rattle.edi_line.specs.ZoneData.{entries}
 use Rattle.edi_line.specs.Zones.{groups_of}
 use Rattle.edi_explain.specs.inner.RowPartners.{IsEarlierRow, PassesRow}
-use Rattle.edi_explain.proofs.Leasts.{least_here, none_here}
+use Rattle.edi_plan.proofs.Leasts.{least_here, none_here}
 use Rattle.edi_explain.proofs.RowGroups.{earlier_row, row_passes, here_left, next_left, ended}
 use Rattle.edi_explain.proofs.rows.first_row.Goals as goal
 

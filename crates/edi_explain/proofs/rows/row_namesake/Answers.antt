@@ -1,7 +1,7 @@
 use Rattle.std.proofs.Common.{sym}
 use Rattle.edi_line.specs.ZoneData.{entries}
 use Rattle.edi_line.specs.Zones.{groups_of}
-use Rattle.edi_explain.proofs.Leasts.{least_as}
+use Rattle.edi_plan.proofs.Leasts.{least_as}
 use Rattle.edi_explain.proofs.RowGroups.{name_shared, share_name}
 use Rattle.edi_explain.proofs.rows.row_namesake.Goals as goal
 

@@ -1,9 +1,15 @@
-use Rattle.std.proofs.Common.{subst}
-use Rattle.edi_line.specs.LineRules.{BreaksLineRule}
-use Rattle.edi_line.specs.Refusal.{IsLineRefusal}
+use Rattle.std.proofs.Common.{◌∙◌, ◌++◌, ap, codes}
+use Rattle.edi_explain.specs.Skipped.{left_out_line}
 use Rattle.edi_explain.proofs.skipped.describe_skipped.Goals as goal
 
-pub unreachable-requires : goal.unreachable-requires
-unreachable-requires c =
-    let least = subst (IsLineRefusal (BreaksLineRule c.args.bytes.now)) c.in-Err-Broken.field-0-is c.in-Err-Broken.ensures.least in
-    c.requires _ _ least.is
+pub returns : goal.returns
+returns c =
+    let found = c.left_out-left_out in (
+      found.result.quality,
+      found.result.remarks,
+      found.ensures.quality,
+      found.ensures.remarks,
+      c.in_ok-push_left_out-2.ensures
+          ∙ ap (λ l. l ++ left_out_line (codes "remarks") found.result.remarks)
+          (c.in_ok-push_left_out.ensures ∙ ap (λ l. l ++ left_out_line (codes "quality zones") found.result.quality) c.new-lines.ensures.items),
+    )
