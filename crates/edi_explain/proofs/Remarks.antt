@@ -62,7 +62,7 @@ module _ (bytes : List ℕ) (unbroken : IsUnbroken (BreaksLineRule bytes)) where
   all_fine = fine_behind [] (line_contents bytes) refl
 
 -- the first line, and those that pass a test behind it
-pub lines_more : (test : Reading → Bool) (bytes line behind : List ℕ) → lines_of bytes ≡ line ∷ lines_of behind → (b : Bool) → test (reading_of (content_of line)) ≡ b
+pub lines_more : (test : Reading → Bool) (bytes line behind : List ℕ) → lines_in bytes ≡ line ∷ lines_in behind → (b : Bool) → test (reading_of (content_of line)) ≡ b
     → count_by test (readings_of bytes) ≡ cond b 1 0 + count_by test (readings_of behind)
 lines_more test bytes line behind e b f =
     ap (λ cs. count_by test (map reading_of cs)) (next_content bytes line behind e)
