@@ -7,7 +7,7 @@ use Rattle.std.specs.Io.KnownBytes.{Appends}
 use Rattle.std.proofs.lemmas.List.Sums.{fold-append}
 use Rattle.edi_schema.specs.Classes.{Classes}
 use Rattle.edi_answers.specs.Hashes.{AreAnswered, IsCutOff, IsStep, Step, worst_of}
-use Rattle.edi_answers.specs.inner.Hashes.{StepsOn, StopsAt}
+use Rattle.edi_answers.specs.inner.Hashes.{StepsOn, OutputStopsAt}
 use Rattle.edi_files.specs.Reasons.{Why, ended}
 use Rattle.edi_answers.specs.declared.form.AnswerForm.{AnswerForm}
 use Rattle.edi_answers.specs.Effects.{Inputs, Stream}
@@ -94,7 +94,7 @@ module _ (inputs : Inputs) (why : Why) (s : Classes) (siblings : List (List ℕ)
       )
 
   pub cut_off : (paths done more : List (List ℕ)) (path : List ℕ) (worst status : ℕ) → paths ≡ done ++ path ∷ more → AreAnswered inputs why s siblings form (over o p pf) (over a b bf) done worst
-      → StopsAt inputs s form path (over p q qf) → GoesOut b c cf (ended (codes "cannot write standard output")) → (IsTrue bf → IsTrue cf) → status ≡ 4
+      → OutputStopsAt inputs s form path (over p q qf) → GoesOut b c cf (ended (codes "cannot write standard output")) → (IsTrue bf → IsTrue cf) → status ≡ 4
       → IsCutOff inputs why s siblings form (over o q qf) (over a c cf) paths status
   cut_off paths done more path worst status is h k said stays four = (
     done,

@@ -7,7 +7,7 @@ ghost use Rattle.edi_answers.specs.Hashes.{AnswersAll, AnswersHeaded, AnswersUnd
 ghost use Rattle.edi_schema.specs.SchemaRefusal.{IsGoodSchema};
 ghost use Rattle.edi_compare.specs.Runs.{MatchFault, RefusesSchema};
 ghost use Rattle.edi_answers.specs.Notes.{IsNote, IsNoteOn};
-ghost use Rattle.edi_answers.specs.inner.Hashes.{IsAnswerText, IsSchemaText, StepsOn, StopsAt, TellsSheetFault};
+ghost use Rattle.edi_answers.specs.inner.Hashes.{IsAnswerText, IsSchemaText, StepsOn, OutputStopsAt, TellsSheetFault};
 ghost use Rattle.edi_files.specs.Reasons.{reason_line};
 ghost use Rattle.edi_files.specs.declared.reason.Reason.{Reason};
 ghost use Rattle.edi_answers.specs.Reasons.{IsReasonOf};
@@ -255,7 +255,7 @@ fn answer<F: Folder, O: ByteOut, E: ByteOut>(
         (StepsOn (inputs F.Folder F.Reader.ByteIn folder.now) (F.why folder.now) schema.now
         (map (λ p. p.now) siblings.now) form path.now (written O.ByteOut out.old out.new)
         (written E.ByteOut err.old err.new)) }
-    ensures err { IfErr result (λ w. StopsAt (inputs F.Folder F.Reader.ByteIn folder.now) schema.now form path.now
+    ensures err { IfErr result (λ w. OutputStopsAt (inputs F.Folder F.Reader.ByteIn folder.now) schema.now form path.now
         (written O.ByteOut out.old out.new) × (err.new ≡ err.old)) }
     ensures out_stays { IsTrue (O.has_failed out.old) → IsTrue (O.has_failed out.new) }
     ensures stays { IsTrue (E.has_failed err.old) → IsTrue (E.has_failed err.new) }

@@ -13,7 +13,7 @@ use Rattle.edi_explain.specs.Sites.{AreAllSites, IsSiteIfAny, IsSiteOf, IsSiteOf
 use Rattle.edi_explain.specs.declared.site.RecordSite.{RecordSite}
 use Rattle.edi_census.specs.Listed.{IsBrokenLine, ListsBroken}
 use Rattle.edi_line.specs.declared.broken.BrokenRule.{BrokenRule}
-use Rattle.edi_census.specs.inner.Sited.{HasSites, HasSitesFor}
+use Rattle.edi_census.specs.inner.Sited.{AreSitesOfFile, HasSitesFor}
 
 -- the lines of one more
 pub listed_more : (b name : List ℕ) (broken : List BrokenRule) (it : BrokenRule) (text line : List ℕ) → ListsBroken b name broken text
@@ -57,7 +57,7 @@ taken xs i d lt = grind (arith, common_steps)
 -- the lines of one more of a list
 pub listed_next : (b name : List ℕ) (broken : List BrokenRule) (i : ℕ) (d : BrokenRule) (sites : List RecordSite) (text new : List ℕ) → i < length broken
     → HasSitesFor b broken sites → ListsBroken b name (take i broken) text
-    → ((200 ≤ (get_or broken i d).rule → HasSites b sites) → (line : List ℕ) × IsBrokenLine b name (get_or broken i d) line × (new ≡ text ++ line))
+    → ((200 ≤ (get_or broken i d).rule → AreSitesOfFile b sites) → (line : List ℕ) × IsBrokenLine b name (get_or broken i d) line × (new ≡ text ++ line))
     → ListsBroken b name (take (i + 1) broken) new
 listed_next b name broken i d sites text new lt sited before one =
     let own = one (sited i d lt) in

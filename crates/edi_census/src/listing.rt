@@ -7,7 +7,7 @@ ghost use Rattle.edi_compare.specs.Rules.{Breaks};
 ghost use Rattle.edi_explain.specs.Sites.{AreAllSites, IsSiteIfAny};
 ghost use Rattle.edi_line.specs.AllBroken.{AreAllBroken};
 ghost use Rattle.edi_census.specs.Listed.{IsBrokenLine, ListsBroken};
-ghost use Rattle.edi_census.specs.inner.Sited.{HasSites, HasSitesFor};
+ghost use Rattle.edi_census.specs.inner.Sited.{AreSitesOfFile, HasSitesFor};
 
 use edi_explain::{RecordSite, push_line_rule, push_record_rule, sites_of_all};
 use edi_line::BrokenRule;
@@ -34,7 +34,7 @@ fn push_at_record(
     it: BrokenRule,
 ) -> Result<(), AllocError>
     requires { 200 ≤ it.rule }
-    ensures { OnOk result ((b : List ℕ) → HasSites b sites.now → (line : List ℕ)
+    ensures { OnOk result ((b : List ℕ) → AreSitesOfFile b sites.now → (line : List ℕ)
         × IsBrokenLine b name.now it line × (text.new.items ≡ text.old.items ++ line)) }
 {
     match site_at(sites, it.at) {
@@ -50,7 +50,7 @@ fn push_rule(
     sites: &[RecordSite],
     it: BrokenRule,
 ) -> Result<(), AllocError>
-    ensures { OnOk result ((b : List ℕ) → (200 ≤ it.rule → HasSites b sites.now) → (line : List ℕ)
+    ensures { OnOk result ((b : List ℕ) → (200 ≤ it.rule → AreSitesOfFile b sites.now) → (line : List ℕ)
         × IsBrokenLine b name.now it line × (text.new.items ≡ text.old.items ++ line)) }
 {
     if it.rule < FIRST_OF_RECORDS {

@@ -11,7 +11,7 @@ use Rattle.edi_compare.specs.declared.uncarried.RecordPart.TheVariants.{Reversal
 use Rattle.edi_compare.specs.declared.uncarried.Uncarried.{Uncarried}
 use Rattle.edi_compare.specs.declared.uncarried.Uncarried.TheVariants.{Entries, CharacterSets, Record, Unmet}
 use Rattle.edi_compare.specs.declared.uncarried.WrongPartner.TheVariants.{Nowhere, Shared, Unlike}
-use Rattle.edi_compare.specs.inner.Checking.{Matching, AgreeAt, AreCarried, AreMarked, IsCarriedAt, StopsAt}
+use Rattle.edi_compare.specs.inner.Checking.{Matching, AgreeAt, AreCarried, AreMarked, IsCarriedAt, FailsBy}
 
 -- ---- where all records of the first plan are carried
 
@@ -19,7 +19,7 @@ module _ (m : Matching) (marks : List Bool) (are : AreMarked (slice_index m.to) 
   pub all_met : ((j : ℕ) → IsPlace m.other j → get_or marks j false ≡ true) → AreCarried m
   all_met all = record { each = each; onto = λ j h. are.found j (all j h) }
 
-  pub one_unmet : (j : ℕ) → IsPlace m.other j → get_or marks j false ≡ false → ((l : ℕ) → l < j → get_or marks l false ≡ true) → StopsAt m (Unmet j)
+  pub one_unmet : (j : ℕ) → IsPlace m.other j → get_or marks j false ≡ false → ((l : ℕ) → l < j → get_or marks l false ≡ true) → FailsBy m (Unmet j)
   one_unmet j there unmarked before = record {
     carried = each;
     there = there;
@@ -71,7 +71,7 @@ module _ (s : Classes) (p q : PlanData) (pairing : Pairing) where
   agrees h i there Attributes = (h.carries.each i there).attributes
   agrees h i there Ends = ((h.carries.each i there).origin, (h.carries.each i there).others)
 
-  pub stop_denies : (u : Uncarried) → StopsAt matching_of u → ¬ (PairingCarries s p q pairing)
+  pub stop_denies : (u : Uncarried) → FailsBy matching_of u → ¬ (PairingCarries s p q pairing)
   stop_denies Entries h carries = h
   stop_denies CharacterSets h carries = h
   stop_denies (Record i Nowhere) h carries = let fits : slice_index pairing.to i < length q.list = carries.carries.places.within i h.there in omega (arith, h.wrong, fits)
@@ -81,7 +81,7 @@ module _ (s : Classes) (p q : PlanData) (pairing : Pairing) where
   stop_denies (Record i (Unlike part)) h carries = h.wrong.2.here (agrees carries i h.there part)
   stop_denies (Unmet j) h carries = let w = carries.carries.places.onto j h.there in h.unmet w.0 w.1 w.2
 
-  pub found : {E : Type 0} (r : Result (Option Uncarried) E) → HasEntries p pairing → q.cse ≡ p.cse → IfOk r (λ why. MatchOption why (AreCarried matching_of) (StopsAt matching_of))
+  pub found : {E : Type 0} (r : Result (Option Uncarried) E) → HasEntries p pairing → q.cse ≡ p.cse → IfOk r (λ why. MatchOption why (AreCarried matching_of) (FailsBy matching_of))
       → IfOk r (λ why. MatchOption why (PairingCarries s p q pairing) (λ _. ¬ (PairingCarries s p q pairing)))
   found (Ok None) entries cse h = all_carried entries cse h
   found (Ok (Some u)) entries cse h = stop_denies u h

@@ -26,7 +26,7 @@ pub struct Carrier<'a> {
 }
 
 impl<'a> Model for Carrier<'a> {
-    ghost use Rattle.edi_compare.specs.inner.Checking.{Matching, IsFitting};
+    ghost use Rattle.edi_compare.specs.inner.Checking.{Matching, HasEntryForEach};
 
     ghost Value = { Matching };
 
@@ -38,7 +38,7 @@ impl<'a> Model for Carrier<'a> {
       turned = p.turned.now;
     } };
 
-    ghost invariant = { λ p. IsFitting (record {
+    ghost invariant = { λ p. HasEntryForEach (record {
       classes = p.schema.now;
       plan = p.plan.now;
       other = p.other.now;

@@ -2,7 +2,7 @@
 
 ghost use Rattle.std.specs.Prelude.{◌≡◌, ◌↔◌, ◌<◌, ℕ, IsTrue, IfOk, IfSome, MatchOption, false, length, slice_index, slice_index_or, true};
 ghost use Rattle.edi_plan.specs.Plans.{IsPlace};
-ghost use Rattle.edi_compare.specs.inner.Checking.{AgreeAt, AreCarried, AreMarked, IsCarriedAt, IsUnlikeAt, IsWrongAt, StopsAt};
+ghost use Rattle.edi_compare.specs.inner.Checking.{AgreeAt, AreCarried, AreMarked, IsCarriedAt, IsUnlikeAt, IsWrongAt, FailsBy};
 ghost use Rattle.edi_compare.specs.Uncarried.{IsUncarriedBy};
 ghost use Rattle.edi_compare.specs.declared.uncarried.RecordPart.{RecordPart as Part};
 ghost use Rattle.edi_plan.specs.Agreeing.{HasClasses};
@@ -74,7 +74,7 @@ pub fn first_uncarried(
 impl<'a> Carrier<'a> {
     /// The first record that isn't carried, or else the first of the second plan to which none goes.
     fn first_stop(&self, alloc: Global) -> Result<Option<Uncarried>, AllocError>
-        ensures { IfOk result (λ why. MatchOption why (AreCarried self.now) (StopsAt self.now)) }
+        ensures { IfOk result (λ why. MatchOption why (AreCarried self.now) (FailsBy self.now)) }
     {
         let mut marks = vec![in alloc; false; self.other.len() as usize]?;
         for place in 0..self.plan.len() {

@@ -12,7 +12,7 @@ use Rattle.std.proofs.lemmas.List.Sums.{length-filter}
 use Rattle.std.proofs.lemmas.Option.{none-some, same_Some}
 use Rattle.edi_diff.specs.declared.changes.Proposal.{Proposal}
 use Rattle.edi_diff.specs.inner.Codes.{is_of_second, place_by, proposal_by, proposal_if}
-use Rattle.edi_diff.specs.inner.LonePairs.{AreLoneNeighbours, AreLonePairs, HasKeyAt, IsLoneAt, IsLoneIfAny, IsLonePair, keyed_by, with_code, with_key}
+use Rattle.edi_diff.specs.inner.LonePairs.{AreLoneNeighbours, AreLonePairs, HasKeyAt, IsLoneAt, IsLoneIfAny, IsLonePair, with_keys, with_code, with_key}
 
 -- how many of a list pass a test
 
@@ -390,12 +390,12 @@ all_ok (Ok v) P Q f h = f v h
 all_ok (Err e) P Q f h = tt
 
 pub proposed_by : {K V E : Type 0} (cmp : K → K → Ordering) (items : V → List Proposal) (key : ℕ → Option K) (codes all : List ℕ) (n : ℕ) (pairs lent : List (K × ℕ)) (r : Result V E) → lent ≡ pairs
-    → pairs ≡ keyed_by key (take n codes) → length codes ≤ n → codes ≡ all → IfOk r (λ v. AreLonePairs cmp lent (items v)) → IfOk r (λ v. AreLonePairs cmp (keyed_by key all) (items v))
+    → pairs ≡ with_keys key (take n codes) → length codes ≤ n → codes ≡ all → IfOk r (λ v. AreLonePairs cmp lent (items v)) → IfOk r (λ v. AreLonePairs cmp (with_keys key all) (items v))
 proposed_by {K} cmp items key codes all n pairs lent r same e h is lone =
-    subst (λ (ps : List (K × ℕ)). IfOk r (λ v. AreLonePairs cmp ps (items v))) (same ∙ (e ∙ ap (keyed_by key) (take_all n codes h ∙ is))) lone
+    subst (λ (ps : List (K × ℕ)). IfOk r (λ v. AreLonePairs cmp ps (items v))) (same ∙ (e ∙ ap (with_keys key) (take_all n codes h ∙ is))) lone
 
-pub keyed_more : {K : Type 0} (key : ℕ → Option K) (codes : List ℕ) (n : ℕ) (done new : List (K × ℕ)) (found : Option K) → n < length codes → done ≡ keyed_by key (take n codes)
-    → found ≡ key (get_or codes n 0) → new ≡ done ++ with_code found (get_or codes n 0) → new ≡ keyed_by key (take (n + 1) codes)
+pub keyed_more : {K : Type 0} (key : ℕ → Option K) (codes : List ℕ) (n : ℕ) (done new : List (K × ℕ)) (found : Option K) → n < length codes → done ≡ with_keys key (take n codes)
+    → found ≡ key (get_or codes n 0) → new ≡ done ++ with_code found (get_or codes n 0) → new ≡ with_keys key (take (n + 1) codes)
 keyed_more key codes n done new found h so_far found_is is =
     let code = get_or codes n 0 in
-    is ∙ ((λ i. so_far i ++ with_code (found_is i) code) ∙ (flat_map_more (λ c. with_code (key c) c) [] (take n codes) code ∙ ap (keyed_by key) (sym (take_more codes n 0 h))))
+    is ∙ ((λ i. so_far i ++ with_code (found_is i) code) ∙ (flat_map_more (λ c. with_code (key c) c) [] (take n codes) code ∙ ap (with_keys key) (sym (take_more codes n 0 h))))

@@ -5,9 +5,9 @@ ghost use Rattle.std.specs.Prelude.{◌≡◌, ◌↔◌, ◌<◌, ◌^◌, ◌+
 ghost use Rattle.edi_plan.specs.Plans.{IsPlace};
 ghost use Rattle.edi_diff.specs.inner.Codes.{code_at, is_of_second, place_by, proposal_by};
 ghost use Rattle.edi_diff.specs.inner.Joints.{AreJoints, joint_cmp, joint_of, joined_with, joints_of};
-ghost use Rattle.edi_diff.specs.inner.Keys.{all_known, contents_key, ends_key, joined_key, points_key};
+ghost use Rattle.edi_diff.specs.inner.Keys.{all_known, contents_key, named_ends_key, joined_key, points_key};
 ghost use Rattle.edi_diff.specs.inner.LonePairs.{AreByContents, AreByEnds, AreByJoints, AreByPoints, AreLoneNeighbours, AreLonePairs, HasKeyAt, IsLoneIfAny, with_code};
-ghost use Rattle.edi_diff.specs.inner.Progress.{arc_of, class_at, first_of_pair, name_of, open_codes, open_seconds, plan_of, progress_of, reversal_of};
+ghost use Rattle.edi_diff.specs.inner.Progress.{arc_of_ends, link_class_at, first_of_pair, known_name, open_codes, open_seconds, plan_of, progress_of, reversal_of};
 
 use crate::changes::{Changes, Proposal};
 use edi_line::{BorrowedList, ListOfBorrowed, Sequence};
@@ -135,7 +135,7 @@ impl<'a> Open<'a> {
 
     /// What a record of a side is named by: its place in the second sheet, if it is known.
     fn name(&self, of_second: bool, place: u32) -> Option<u32>
-        ensures { result ≡ name_of (progress_of self.now) of_second place }
+        ensures { result ≡ known_name (progress_of self.now) of_second place }
     {
         if !of_second {
             return match self.changes.to.as_slice().get(place as usize) {
@@ -152,7 +152,7 @@ impl<'a> Open<'a> {
     /// The class of a link as the second sheet has it, where its arc may be reversed.
     fn class(&self, of_second: bool, place: u32) -> LinkClass
         ensures { IsPlace (plan_of (progress_of self.now) of_second) place
-            → result ≡ class_at (progress_of self.now) of_second place }
+            → result ≡ link_class_at (progress_of self.now) of_second place }
     {
         let plan = self.sheet(of_second);
         if place >= plan.len() {
@@ -264,7 +264,7 @@ impl<'a> Open<'a> {
         alloc: Global,
         code: Code,
     ) -> Result<Option<(LinkClass, Sequence<u32>)>, AllocError>
-        ensures { IfOk result (λ key. key ≡ ends_key (progress_of self.now) code) }
+        ensures { IfOk result (λ key. key ≡ named_ends_key (progress_of self.now) code) }
     {
         let plan = self.side(code);
         let place = place_of(code);
@@ -288,7 +288,7 @@ impl<'a> Open<'a> {
         ends: &[PlanEnd],
     ) -> Result<Option<Vec<u32>>, AllocError>
         ensures { IfOk result (λ names. option_map (λ known. known.items) names
-            ≡ all_known (map (λ end. name_of (progress_of self.now) of_second end.target) ends.now)) }
+            ≡ all_known (map (λ end. known_name (progress_of self.now) of_second end.target) ends.now)) }
     {
         let mut names = Vec::new(alloc);
         for end in ends {
@@ -314,7 +314,7 @@ fn one_of_pair(role: Role) -> Role
 
 /// The first arc among these ends.
 fn arc_among(plan: &Plan, ends: &[PlanEnd]) -> Option<u32>
-    ensures { result ≡ arc_of plan.now ends.now }
+    ensures { result ≡ arc_of_ends plan.now ends.now }
 {
     for end in ends {
         if end.target < plan.len() && plan.kind(end.target) == Kind::Par {

@@ -16,7 +16,7 @@ use Rattle.edi_record.proofs.TextParts.{pointer_one}
 use Rattle.edi_explain.specs.AstrayZones.{AreApart, IsNamedBy}
 use Rattle.edi_explain.specs.Elsewhere.{AreStrayEnds, AreTogether, HasNamed, HasNamedAmong, HasStrayEnds, ends_of_record, link_ends}
 use Rattle.edi_explain.specs.declared.elsewhere.StrayEnds.{StrayEnds}
-use Rattle.edi_explain.specs.inner.Elsewhere.{AreEnds, EndsAre, IsSoughtName, sign_of, sign_zone}
+use Rattle.edi_explain.specs.inner.Elsewhere.{AreEndsWithStray, EndsAre, IsSoughtName, name_signature, sign_zone}
 use Rattle.edi_explain.specs.declared.elsewhere.LinkEnds.{LinkEnds}
 
 -- no pointer is apart from itself
@@ -141,14 +141,14 @@ ends_more : (come : List (List ZoneData)) (g : List ZoneData) → link_ends (com
 ends_more come g = flat_map-append ends_of_record come (g ∷ []) ∙ ap (λ l. link_ends come ++ l) (append-nil (ends_of_record g))
 
 -- one record more
-module _ (pointer : Pointer) (ends later : LinkEnds) (g : List ZoneData) (taken : (list : List (List ℕ)) → AreEnds list ends → AreEnds (list ++ ends_of_record g) later) (was is : Bool) where
+module _ (pointer : Pointer) (ends later : LinkEnds) (g : List ZoneData) (taken : (list : List (List ℕ)) → AreEndsWithStray list ends → AreEndsWithStray (list ++ ends_of_record g) later) (was is : Bool) where
   pub take_named : (IsTrue is ↔ (IsTrue was ⊎ IsNamedBy (shown pointer) g)) → (groups : List (List ZoneData))
       → IsSoughtName (record { pointer = pointer; ends = ends; is_there = was }) groups
       → IsSoughtName (record { pointer = pointer; ends = later; is_there = is }) (groups ++ g ∷ [])
   take_named k [] h = absurd h
   take_named k (sign ∷ come) h = (
     h.0,
-    subst (λ l. AreEnds l later) (sym (ends_more come g)) (taken (link_ends come) h.1),
+    subst (λ l. AreEndsWithStray l later) (sym (ends_more come g)) (taken (link_ends come) h.1),
     (λ i. into (k.0 i), λ a. k.1 (from (any_cases (IsNamedBy (shown pointer)) come g a))),
   )
     where
@@ -162,7 +162,7 @@ module _ (pointer : Pointer) (ends later : LinkEnds) (g : List ZoneData) (taken 
 
 -- a record that is found, and one that isn't
 module _ (p : PointerText) (come : List (List ZoneData)) where
-  module _ (home : Vec ℕ) (ends : LinkEnds) (is : ends.home ≡ Some home) (h : AreEnds (link_ends come) ends) where
+  module _ (home : Vec ℕ) (ends : LinkEnds) (is : ends.home ≡ Some home) (h : AreEndsWithStray (link_ends come) ends) where
     leads_by : (o s : Option (Vec ℕ)) → o ≡ Some home → EndsAre (link_ends come) o s → first (link_ends come) ≡ Some home.items
     leads_by None s e k = absurd cc
     leads_by (Some x) None e k = let same : x ≡ home = cc in subst (λ (v : Vec ℕ). first (link_ends come) ≡ Some v.items) same k.0
@@ -197,7 +197,7 @@ module _ (b : List ℕ) (p : PointerText) where
 abbrev value_at : ℕ → List ZoneData → List ℕ
 value_at n zones = (get_or zones n (sign_zone [])).value
 
-pub signed : (p q : PointerText) → sign_of p ≡ sign_of q → p ≡ q
+pub signed : (p q : PointerText) → name_signature p ≡ name_signature q → p ≡ q
 signed p q e =
     ap (λ (t : List ℕ). made t p.subset p.rty p.rid) (ap (value_at 0) e)
     ∙ (ap (λ (t : List ℕ). made q.lot t p.rty p.rid) (ap (value_at 1) e)

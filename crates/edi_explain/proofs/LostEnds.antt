@@ -18,7 +18,7 @@ use Rattle.edi_record.proofs.TextParts.{pointer_one}
 use Rattle.edi_schema.specs.Classes.{is_name}
 use Rattle.edi_schema.proofs.Names.{name_itself, same_name}
 use Rattle.edi_explain.specs.AstrayZones.{IsNamedBy, NamesNoElement}
-use Rattle.edi_explain.specs.inner.LostEnds.{AreNamesOf, identifiers, pointed_name}
+use Rattle.edi_explain.specs.inner.LostEnds.{AreNamesOfGroups, identifiers, pointed_name}
 use Rattle.edi_explain.proofs.LinkEnds.{any_cases, any_more, nothing_there}
 
 -- ---- sets of names
@@ -88,9 +88,9 @@ name_is (x ∷ xs) z rid name less at leads is p = (into, from)
           sym leads ∙ ap (λ (n : Name). Some n.rid) same,
         )
 
-module _ (groups : List (List ZoneData)) (g : List ZoneData) (names : List Name) (h : AreNamesOf groups names) where
+module _ (groups : List (List ZoneData)) (g : List ZoneData) (names : List Name) (h : AreNamesOfGroups groups names) where
   pub names_more : (later : List Name) (name : Name) → later ≡ insert_key is_name names name → ((p : PointerText) → IsNamedBy p g ↔ (Some name ≡ Some (pointed_name p)))
-      → AreNamesOf (groups ++ g ∷ []) later
+      → AreNamesOfGroups (groups ++ g ∷ []) later
   names_more later name put own p = (
     λ c. into (put_or names name (pointed_name p) (subst (λ l. Contains l (pointed_name p)) put c)),
     λ a. subst (λ l. Contains l (pointed_name p)) (sym put) (or_put names name (pointed_name p) (from (any_cases (IsNamedBy p) groups g a))),
@@ -104,7 +104,7 @@ module _ (groups : List (List ZoneData)) (g : List ZoneData) (names : List Name)
       from (inl a) = inl ((h p).1 a)
       from (inr n) = inr (same_names name (pointed_name p) ((own p).0 n))
 
-  pub names_stay : ((p : PointerText) → IsNamedBy p g ↔ (None ≡ Some (pointed_name p))) → AreNamesOf (groups ++ g ∷ []) names
+  pub names_stay : ((p : PointerText) → IsNamedBy p g ↔ (None ≡ Some (pointed_name p))) → AreNamesOfGroups (groups ++ g ∷ []) names
   names_stay own p = (
     λ c. any_more (IsNamedBy p) groups g ((h p).0 c),
     λ a. from (any_cases (IsNamedBy p) groups g a),
@@ -114,7 +114,7 @@ module _ (groups : List (List ZoneData)) (g : List ZoneData) (names : List Name)
       from (inl a) = (h p).1 a
       from (inr n) = let e = (own p).0 n in absurd cc
 
-pub no_names : (names : List Name) → names ≡ [] → AreNamesOf [] names
+pub no_names : (names : List Name) → names ≡ [] → AreNamesOfGroups [] names
 no_names names e p = (
   λ c. let d = subst (λ l. Contains l (pointed_name p)) e c in absurd (omega (arith, d.1)),
   λ a. absurd (nothing_there (IsNamedBy p) a),
@@ -128,7 +128,7 @@ identifiers_more groups g o e =
 
 -- ---- ends
 
-module _ (groups : List (List ZoneData)) (names : List Name) (h : AreNamesOf groups names) (text : List ℕ) (p : PointerText) (is : IsPointer text p) where
+module _ (groups : List (List ZoneData)) (names : List Name) (h : AreNamesOfGroups groups names) (text : List ℕ) (p : PointerText) (is : IsPointer text p) where
   pub of_links : p.rty ≡ codes "LNK" → NamesNoElement groups text
   of_links e = (p, is, inl e)
 

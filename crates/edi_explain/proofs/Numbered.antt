@@ -6,11 +6,11 @@ use Rattle.edi_line.specs.Zones.{groups_of}
 use Rattle.edi_explain.specs.Refusals.{IsSiteAtIfAny}
 use Rattle.edi_explain.specs.Sites.{IsSiteIfAny}
 use Rattle.edi_explain.specs.declared.site.RecordSite.{RecordSite}
-use Rattle.edi_explain.specs.inner.Found.{group_numbered, number_of}
+use Rattle.edi_explain.specs.inner.Found.{group_numbered, number_from_one}
 use Rattle.edi_explain.specs.inner.Sites.{IsGroupSite}
 
 -- a place from a number
-pub numbered_back : (n : ℕ) (o : Option ℕ) → SomeIff o (1 ≤ n) (n - 1) → number_of o ≡ n
+pub numbered_back : (n : ℕ) (o : Option ℕ) → SomeIff o (1 ≤ n) (n - 1) → number_from_one o ≡ n
 numbered_back n (Some k) h = omega (arith, h.0, h.1)
 numbered_back zero None h = refl
 numbered_back (suc n) None h = absurd (h (omega arith))
@@ -44,7 +44,7 @@ module _ (zones : List ZoneData) (number : ℕ) where
       let g : d.has_site.head ∷ d.has_site.rest ≡ [] = sym d.has_site.is ∙ (sym same ∙ h) in cc
 
 -- the earlier record, by its place
-pub site_of_earlier : (zones : List ZoneData) (earlier : Option ℕ) (found : Option RecordSite) → IsSiteIfAny zones (number_of earlier) found → IsSiteAtIfAny zones earlier found
+pub site_of_earlier : (zones : List ZoneData) (earlier : Option ℕ) (found : Option RecordSite) → IsSiteIfAny zones (number_from_one earlier) found → IsSiteAtIfAny zones earlier found
 site_of_earlier zones (Some place) found h = h
 site_of_earlier zones None None h = refl
 site_of_earlier zones None (Some site) h = absurd (omega (arith, h.number_is))

@@ -8,14 +8,14 @@ use Rattle.edi_explain.specs.AstrayZones.{IsAstray, IsFirstAstray, IsFirstLostEn
 use Rattle.edi_explain.specs.BreakingZones.{IsBreakingZone, IsBreakingZoneOf}
 use Rattle.edi_explain.specs.ZoneLines.{IsZoneLine}
 use Rattle.edi_explain.specs.inner.LostEnds.{IsLostEndOf}
-use Rattle.edi_explain.specs.inner.Found.{group_numbered, number_of}
+use Rattle.edi_explain.specs.inner.Found.{group_numbered, number_from_one}
 use Rattle.edi_explain.proofs.Numbered.{none_numbered, numbered_group}
 
 abbrev ends_in : List ZoneData → Option (List ℕ)
 ends_in group = first (values (codes "FTP") group)
 
 module _ (zones : List ZoneData) (place : ℕ) (g : Option (List ZoneData)) (end : Option (List ℕ)) (is : end ≡ option_and_then ends_in g) where
-  pub end_of_earlier : (earlier : Option ℕ) (e : ℕ) → earlier ≡ Some e → g ≡ group_numbered (groups_of zones) (number_of earlier)
+  pub end_of_earlier : (earlier : Option ℕ) (e : ℕ) → earlier ≡ Some e → g ≡ group_numbered (groups_of zones) (number_from_one earlier)
       → end ≡ first_end_at zones (unwrap_or earlier place)
   end_of_earlier (Some k) e there h = is ∙ ap (option_and_then ends_in) h
   end_of_earlier None e there h = absurd cc

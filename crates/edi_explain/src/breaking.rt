@@ -8,7 +8,7 @@ ghost use Rattle.edi_record.specs.Texts.{IsPosition};
 ghost use Rattle.edi_record.specs.declared.record.Point.{Point as Points};
 ghost use Rattle.edi_explain.specs.BreakingZones.{IsBreakingZoneOf, IsFirstPassing, IsSecond, NamesType, Passes, PassesAt, count_beside as count_beside_code, counted_by as counted_by_code, is_typed, test_of as test_of_rule};
 ghost use Rattle.edi_explain.specs.declared.breaking.ZoneTest.TheVariants.{BadCount};
-ghost use Rattle.edi_explain.specs.inner.OpenAttributes.{LeavesOpen};
+ghost use Rattle.edi_explain.specs.inner.OpenAttributes.{LeaveOpen};
 
 use crate::unknown::{is_open_behind, is_unknown_pointer};
 use crate::wrong_texts::{is_no_position, is_other_count};
@@ -222,7 +222,7 @@ fn passes(
     behind: &[Zone<'_>],
     test: ZoneTest,
 ) -> bool
-    requires { LeavesOpen front.is_open (entries front.zones.now) }
+    requires { LeaveOpen front.is_open (entries front.zones.now) }
     ensures { IsTrue result ↔ Passes (entries group.now) (entries front.entry.zones.now) (entry zone.now)
         (entries behind.now) test }
 {
@@ -244,7 +244,7 @@ fn passes(
 /// Places are counted from 0.
 fn passes_at(group: &[Zone<'_>], is_open: bool, test: ZoneTest, place: usize) -> bool
     requires within { place < length group.now }
-    requires open { LeavesOpen is_open (entries (take place group.now)) }
+    requires open { LeaveOpen is_open (entries (take place group.now)) }
     ensures { IsTrue result ↔ PassesAt test (entries group.now) place }
 {
     let front = Front {

@@ -6,7 +6,7 @@ ghost use Rattle.edi_record.specs.Records.{values};
 ghost use Rattle.edi_record.specs.Texts.{shown};
 ghost use Rattle.edi_explain.specs.AstrayZones.{IsNamedBy};
 ghost use Rattle.edi_explain.specs.Elsewhere.{AreStrayEnds, AreTogether, HasNamed, HasStrayEnds, elsewhere_line, link_ends};
-ghost use Rattle.edi_explain.specs.inner.Elsewhere.{AreEnds, IsSoughtName};
+ghost use Rattle.edi_explain.specs.inner.Elsewhere.{AreEndsWithStray, IsSoughtName};
 
 use crate::astray::are_apart;
 use crate::breaking::{is_of_type, is_same};
@@ -30,11 +30,11 @@ impl LinkEnds {
     ghost use Rattle.edi_line.specs.ZoneData.{ZoneData, entries};
     ghost use Rattle.edi_record.specs.Records.{values};
     ghost use Rattle.edi_explain.specs.Elsewhere.{ends_of_record};
-    ghost use Rattle.edi_explain.specs.inner.Elsewhere.{AreEnds};
+    ghost use Rattle.edi_explain.specs.inner.Elsewhere.{AreEndsWithStray};
 
     /// Of no ends.
     fn none() -> LinkEnds
-        ensures { AreEnds [] result }
+        ensures { AreEndsWithStray [] result }
     {
         LinkEnds {
             home: None,
@@ -44,8 +44,8 @@ impl LinkEnds {
 
     /// Takes the next end.
     fn take_end(&mut self, alloc: Global, text: &[u8]) -> Result<(), AllocError>
-        ensures { OnOk result ((ends : List (List ℕ)) → AreEnds ends self.old
-            → AreEnds (ends ++ text.now ∷ []) self.new) }
+        ensures { OnOk result ((ends : List (List ℕ)) → AreEndsWithStray ends self.old
+            → AreEndsWithStray (ends ++ text.now ∷ []) self.new) }
     {
         let home = match &self.home {
             None => {
@@ -65,8 +65,8 @@ impl LinkEnds {
 
     /// Takes the ends among the zones of a link.
     fn take_ends(&mut self, alloc: Global, group: &[Zone<'_>]) -> Result<(), AllocError>
-        ensures { OnOk result ((ends : List (List ℕ)) → AreEnds ends self.old
-            → AreEnds (ends ++ values (codes "FTP") (entries group.now)) self.new) }
+        ensures { OnOk result ((ends : List (List ℕ)) → AreEndsWithStray ends self.old
+            → AreEndsWithStray (ends ++ values (codes "FTP") (entries group.now)) self.new) }
     {
         for zone in group {
             if zone.code == FTP {
@@ -78,8 +78,8 @@ impl LinkEnds {
 
     /// Takes the ends of the next record, if it is a link.
     fn take_record(&mut self, alloc: Global, group: &[Zone<'_>]) -> Result<(), AllocError>
-        ensures { OnOk result ((ends : List (List ℕ)) → AreEnds ends self.old
-            → AreEnds (ends ++ ends_of_record (entries group.now)) self.new) }
+        ensures { OnOk result ((ends : List (List ℕ)) → AreEndsWithStray ends self.old
+            → AreEndsWithStray (ends ++ ends_of_record (entries group.now)) self.new) }
     {
         if is_of_type(group, b"LNK") {
             self.take_ends(alloc, group)?;
@@ -89,7 +89,7 @@ impl LinkEnds {
 }
 
 impl GroupOut for LinkEnds {
-    ghost Holds = { λ ends groups. AreEnds (link_ends groups) ends };
+    ghost Holds = { λ ends groups. AreEndsWithStray (link_ends groups) ends };
 
     fn take(&mut self, alloc: Global, group: &[Zone<'_>]) -> Result<(), AllocError> {
         self.take_record(alloc, group)
@@ -119,7 +119,7 @@ pub fn stray_ends(alloc: Global, bytes: &[u8]) -> Result<Option<StrayEnds>, Allo
 
 /// The two ends, if there are two.
 fn both_of(ends: LinkEnds) -> Option<StrayEnds>
-    ensures { (list : List (List ℕ)) → AreEnds list ends → MatchOption result
+    ensures { (list : List (List ℕ)) → AreEndsWithStray list ends → MatchOption result
         ((home stray : List ℕ) → ¬ (AreStrayEnds list home stray))
         (λ both. AreStrayEnds list both.home.items both.stray.items) }
 {

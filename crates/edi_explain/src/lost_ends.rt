@@ -6,7 +6,7 @@ ghost use Rattle.edi_line.specs.ZoneData.{ZoneData, entries, entry, has_code};
 ghost use Rattle.edi_line.specs.Zones.{groups_of};
 ghost use Rattle.edi_record.specs.Texts.{PointerText};
 ghost use Rattle.edi_explain.specs.AstrayZones.{IsFirstLostEnd, IsNamedBy, NamesNoElement};
-ghost use Rattle.edi_explain.specs.inner.LostEnds.{AreNamesOf, identifiers, pointed_name};
+ghost use Rattle.edi_explain.specs.inner.LostEnds.{AreNamesOfGroups, identifiers, pointed_name};
 
 use crate::breaking::is_same;
 use edi_hash::{KeyNames, NameHash};
@@ -68,7 +68,7 @@ struct GatheredNames {
 }
 
 impl GroupOut for GatheredNames {
-    ghost Holds = { λ out groups. AreNamesOf groups out.names.keys };
+    ghost Holds = { λ out groups. AreNamesOfGroups groups out.names.keys };
 
     fn take(&mut self, alloc: Global, group: &[Zone<'_>]) -> Result<(), AllocError> {
         if let Some(name) = name_of(alloc, group)? {
@@ -109,7 +109,7 @@ pub(crate) fn names_of_records(
     alloc: Global,
     zones: &[Zone<'_>],
 ) -> Result<IndexSet<Name, NameHash>, AllocError>
-    ensures { IfOk result (λ names. AreNamesOf (groups_of (entries zones.now)) names.keys) }
+    ensures { IfOk result (λ names. AreNamesOfGroups (groups_of (entries zones.now)) names.keys) }
 {
     let hash = key_of_names(alloc, zones)?.hash();
     let mut out = GatheredNames {
@@ -138,7 +138,7 @@ fn names_no_element(
     names: &IndexSet<Name, NameHash>,
     text: &[u8],
 ) -> Result<bool, AllocError>
-    ensures { IfOk result (λ t. (groups : List (List ZoneData)) → AreNamesOf groups names.now.keys
+    ensures { IfOk result (λ t. (groups : List (List ZoneData)) → AreNamesOfGroups groups names.now.keys
         → IsTrue t ↔ NamesNoElement groups text.now) }
 {
     let Some(pointer) = Pointer::read(text) else {
@@ -157,7 +157,7 @@ fn is_lost_end(
     names: &IndexSet<Name, NameHash>,
     zone: &Zone<'_>,
 ) -> Result<bool, AllocError>
-    ensures { IfOk result (λ t. (groups : List (List ZoneData)) → AreNamesOf groups names.now.keys
+    ensures { IfOk result (λ t. (groups : List (List ZoneData)) → AreNamesOfGroups groups names.now.keys
         → IsTrue t ↔ ((has_code (codes "FTP") (entry zone.now) ≡ true)
         × NamesNoElement groups (entry zone.now).value)) }
 {
@@ -174,7 +174,7 @@ pub(crate) fn first_lost_end<'a, 'b>(
     names: &IndexSet<Name, NameHash>,
     group: &'b [Zone<'a>],
 ) -> Result<Option<&'b Zone<'a>>, AllocError>
-    ensures { IfOk result (λ found. (groups : List (List ZoneData)) → AreNamesOf groups names.now.keys
+    ensures { IfOk result (λ found. (groups : List (List ZoneData)) → AreNamesOfGroups groups names.now.keys
         → MatchOption found ((z : ZoneData) → ¬ (IsFirstLostEnd groups (entries group.now) z))
         (λ z. IsFirstLostEnd groups (entries group.now) (entry z.now))) }
 {

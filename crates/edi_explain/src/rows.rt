@@ -8,7 +8,7 @@ ghost use Rattle.edi_record.specs.declared.name.Name.{Name};
 ghost use Rattle.edi_schema.specs.SchemaOf.{IsNamed};
 ghost use Rattle.edi_plan.specs.EarlierLinks.{IsLeastIfAny};
 ghost use Rattle.edi_explain.specs.RowPartners.{SharesRowName};
-ghost use Rattle.edi_explain.specs.inner.RowPartners.{IsEarlierRow, IsLinked, PassesRow, name_in};
+ghost use Rattle.edi_explain.specs.inner.RowPartners.{IsEarlierRow, IsLinked, PassesRow, row_name};
 
 use crate::site::group_of;
 use edi_line::Zone;
@@ -39,7 +39,7 @@ enum RowTest<'a> {
 /// The name of a record, if it has both parts of one.
 fn name_of<'b>(group: &'b [Zone<'_>]) -> Option<RowName<'b>>
     ensures { MatchOption result ((name : Name) → ¬ (IsNamed (entries group.now) name))
-        (λ found. IsNamed (entries group.now) (name_in found)) }
+        (λ found. IsNamed (entries group.now) (row_name found)) }
 {
     Some(RowName {
         rty: first_value(group, RTY)?,
@@ -59,7 +59,7 @@ fn states(group: &[Zone<'_>], code: [u8; 3], text: &[u8]) -> bool
 
 /// Whether a record has this name.
 fn is_named(group: &[Zone<'_>], name: &RowName<'_>) -> bool
-    ensures { IsTrue result ↔ IsNamed (entries group.now) (name_in name.now) }
+    ensures { IsTrue result ↔ IsNamed (entries group.now) (row_name name.now) }
 {
     states(group, RTY, name.rty) && states(group, RID, name.rid)
 }

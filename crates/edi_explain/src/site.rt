@@ -6,7 +6,7 @@ ghost use Rattle.edi_line.specs.LineRules.{BreaksLineRule, IsZonesOf};
 ghost use Rattle.edi_line.specs.Refusal.{IsUnbroken};
 ghost use Rattle.edi_line.specs.Zones.{groups_of};
 ghost use Rattle.edi_explain.specs.Sites.{IsSiteIfAny};
-ghost use Rattle.edi_explain.specs.inner.Found.{group_numbered, number_of};
+ghost use Rattle.edi_explain.specs.inner.Found.{group_numbered, number_from_one};
 ghost use Rattle.edi_explain.specs.inner.Sites.{IsGroupSite};
 
 use edi_line::codes::{RID, RTY};
@@ -67,7 +67,7 @@ pub(crate) fn group_of<'a, 'b>(zones: &'b [Zone<'a>], place: u64) -> Option<&'b 
 /// The zones of the record at this place, if there is a place and a record.
 pub(crate) fn record_at<'a, 'b>(zones: &'b [Zone<'a>], place: Option<u64>) -> Option<&'b [Zone<'a>]>
     ensures { option_map (λ g. entries g.now) result
-        ≡ group_numbered (groups_of (entries zones.now)) (number_of place) }
+        ≡ group_numbered (groups_of (entries zones.now)) (number_from_one place) }
 {
     group_of(zones, place?)
 }
@@ -111,7 +111,7 @@ pub(crate) fn site_at(
     zones: &[Zone<'_>],
     place: Option<u64>,
 ) -> Result<Option<RecordSite>, AllocError>
-    ensures { IfOk result (IsSiteIfAny (entries zones.now) (number_of place)) }
+    ensures { IfOk result (IsSiteIfAny (entries zones.now) (number_from_one place)) }
 {
     site_if_found(alloc, record_at(zones, place))
 }

@@ -9,7 +9,7 @@ ghost use Rattle.edi_record.specs.Shapes.{kind_code};
 ghost use Rattle.edi_record.specs.declared.record.Kind.{Kind as Kinds};
 ghost use Rattle.edi_record.specs.inner.Records.{is_open_after};
 ghost use Rattle.edi_explain.specs.BreakingZones.{IsUnknownPointer, is_typed};
-ghost use Rattle.edi_explain.specs.inner.OpenAttributes.{LeavesOpen};
+ghost use Rattle.edi_explain.specs.inner.OpenAttributes.{LeaveOpen};
 
 use crate::breaking::{Front, is_of_type};
 use edi_line::Zone;
@@ -58,7 +58,7 @@ pub(crate) fn is_open_behind(is_open: bool, zone: &Zone<'_>) -> bool
 
 /// Whether a zone behind others is the character set of an attribute.
 fn is_set(front: Front<'_, '_>, zone: &Zone<'_>) -> bool
-    requires { LeavesOpen front.is_open (entries front.zones.now) }
+    requires { LeaveOpen front.is_open (entries front.zones.now) }
     ensures { (result ≡ true) ↔ ((has_code (codes "TEX") (entry zone.now) ≡ true)
         × ((since : List ZoneData) × IsOpen (entries front.entry.zones.now) since)) }
 {
@@ -67,7 +67,7 @@ fn is_set(front: Front<'_, '_>, zone: &Zone<'_>) -> bool
 
 /// Whether a zone behind others isn't known in a record of this type.
 fn is_extra(kind: Kind, front: Front<'_, '_>, zone: &Zone<'_>) -> bool
-    requires { LeavesOpen front.is_open (entries front.zones.now) }
+    requires { LeaveOpen front.is_open (entries front.zones.now) }
     ensures { IsTrue result ↔ IsExtraAt kind (entries front.entry.zones.now) (entry zone.now) }
 {
     !is_known(kind, zone.code) && !is_set(front, zone)
@@ -75,7 +75,7 @@ fn is_extra(kind: Kind, front: Front<'_, '_>, zone: &Zone<'_>) -> bool
 
 /// Whether a record is of this type, and a zone behind others of it isn't known there.
 fn is_extra_of(kind: Kind, group: &[Zone<'_>], front: Front<'_, '_>, zone: &Zone<'_>) -> bool
-    requires { LeavesOpen front.is_open (entries front.zones.now) }
+    requires { LeaveOpen front.is_open (entries front.zones.now) }
     ensures { IsTrue result ↔ ((is_typed (kind_code kind) (entries group.now) ≡ true)
         × IsExtraAt kind (entries front.entry.zones.now) (entry zone.now)) }
 {
@@ -84,7 +84,7 @@ fn is_extra_of(kind: Kind, group: &[Zone<'_>], front: Front<'_, '_>, zone: &Zone
 
 /// Whether a zone of a record, behind others, isn't known in records of its type.
 fn is_unknown(group: &[Zone<'_>], front: Front<'_, '_>, zone: &Zone<'_>) -> bool
-    requires { LeavesOpen front.is_open (entries front.zones.now) }
+    requires { LeaveOpen front.is_open (entries front.zones.now) }
     ensures { IsTrue result ↔ ((kind : Kinds) × (is_typed (kind_code kind) (entries group.now) ≡ true)
         × IsExtraAt kind (entries front.entry.zones.now) (entry zone.now)) }
 {
@@ -104,7 +104,7 @@ fn is_full_pointer(zone: &Zone<'_>) -> bool
 
 /// Whether a zone of a record, behind others, is a pointer that isn't empty and isn't known in records of its type.
 pub(crate) fn is_unknown_pointer(group: &[Zone<'_>], front: Front<'_, '_>, zone: &Zone<'_>) -> bool
-    requires { LeavesOpen front.is_open (entries front.zones.now) }
+    requires { LeaveOpen front.is_open (entries front.zones.now) }
     ensures { IsTrue result ↔ IsUnknownPointer (entries group.now) (entries front.entry.zones.now) (entry zone.now) }
 {
     is_full_pointer(zone) && is_unknown(group, front, zone)

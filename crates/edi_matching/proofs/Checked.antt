@@ -9,8 +9,8 @@ use Rattle.edi_plan.specs.declared.record.PlanEnd.{PlanEnd}
 use Rattle.edi_rank.specs.Labelling.{turned_at}
 use Rattle.edi_rank.specs.Same.{CarriesRecord}
 use Rattle.edi_matching.specs.Matchings.{GoesTo, IsMatched, MatchingHolds, targets_of}
-use Rattle.edi_matching.specs.inner.Marks.{AreApart}
-use Rattle.edi_matching.specs.inner.Proposals.{Proposal, HoldsAt, IsCarried}
+use Rattle.edi_matching.specs.inner.Marks.{GoApart}
+use Rattle.edi_matching.specs.inner.Proposals.{Proposal, HoldsAt, IsCarriedOnto}
 use Rattle.edi_matching.specs.declared.matching.Matching.{Matching}
 use Rattle.edi_matching.proofs.Totals.{goes_within}
 
@@ -43,18 +43,18 @@ matched_more to ends i x h is matched all = (λ left. all.0 (back (here, left)),
 
 pub holds_known : {E : Type 0} (m : Proposal) (i j : ℕ) → GoesTo m.to i j → (turned_at m.turned i ≡ true → (record_at m.plan i).kind ≡ Par)
     → AllByRecursion (λ e. IsMatched m.to e.target) (record_at m.plan i).ends → (r : Result Bool E)
-    → IfOk r (λ answer. IsTrue answer ↔ IsCarried m i j) → IfOk r (λ answer. IsTrue answer ↔ HoldsAt m i)
+    → IfOk r (λ answer. IsTrue answer ↔ IsCarriedOnto m i j) → IfOk r (λ answer. IsTrue answer ↔ HoldsAt m i)
 holds_known m i j goes arc ends (Err e) contents = tt
 holds_known m i j goes arc ends (Ok answer) contents = (λ t. holds (contents.0 t), λ h. contents.1 (h.carries j goes))
   where
     one : (k : ℕ) → GoesTo m.to i k → j ≡ k
     one k e = let f : Some j ≡ Some k = sym goes ∙ e in cc
 
-    holds : IsCarried m i j → HoldsAt m i
+    holds : IsCarriedOnto m i j → HoldsAt m i
     holds carried = record {
       arc = λ e. ((j, goes), arc e);
       ends = λ k e. ends;
-      carries = λ k e. subst (IsCarried m i) (one k e) carried;
+      carries = λ k e. subst (IsCarriedOnto m i) (one k e) carried;
     }
 
 -- all of them
@@ -63,13 +63,13 @@ module _ (s : Classes) (p q : PlanData) (m : Matching) (targets : List ℕ) (sam
   abbrev proposal : Proposal
   proposal = record { classes = s; plan = p; other = q; to = m.to; targets = targets; turned = m.turned }
 
-  carried : (i j : ℕ) → IsCarried proposal i j → CarriesRecord s (slice_index (targets_of m.to)) (turned_at m.turned) i (record_at p i) (record_at q j)
+  carried : (i j : ℕ) → IsCarriedOnto proposal i j → CarriesRecord s (slice_index (targets_of m.to)) (turned_at m.turned) i (record_at p i) (record_at q j)
   carried i j c = subst (λ (ts : List ℕ). CarriesRecord s (slice_index ts) (turned_at m.turned) i (record_at p i) (record_at q j)) same c
 
-  carried_back : (i j : ℕ) → CarriesRecord s (slice_index (targets_of m.to)) (turned_at m.turned) i (record_at p i) (record_at q j) → IsCarried proposal i j
+  carried_back : (i j : ℕ) → CarriesRecord s (slice_index (targets_of m.to)) (turned_at m.turned) i (record_at p i) (record_at q j) → IsCarriedOnto proposal i j
   carried_back i j c = subst (λ (ts : List ℕ). CarriesRecord s (slice_index ts) (turned_at m.turned) i (record_at p i) (record_at q j)) (sym same) c
 
-  pub all_hold : length m.to ≡ length p.list → length m.turned ≡ length p.list → AreApart m.to (length q.list)
+  pub all_hold : length m.to ≡ length p.list → length m.turned ≡ length p.list → GoApart m.to (length q.list)
       → ((i : ℕ) → IsPlace p i → HoldsAt proposal i) → MatchingHolds s p q m
   all_hold entered directed apart each = record {
     all_entered = entered;
@@ -89,7 +89,7 @@ module _ (s : Classes) (p q : PlanData) (m : Matching) (targets : List ℕ) (sam
 
 -- the same of plans and lists that are those of the matching
 pub all_reported : {E : Type 0} (s : Classes) (p q p' q' : PlanData) (m : Matching) (to : List (Option ℕ)) (turned : List Bool) (targets : List ℕ) → p' ≡ p → q' ≡ q → to ≡ m.to → turned ≡ m.turned → targets ≡ targets_of to
-    → length to ≡ length p'.list → length turned ≡ length p'.list → AreApart to (length q'.list) → (r : Result Bool E)
+    → length to ≡ length p'.list → length turned ≡ length p'.list → GoApart to (length q'.list) → (r : Result Bool E)
     → IfOk r (λ answer. IsTrue answer ↔ ((i : ℕ) → IsPlace p' i → HoldsAt (record { classes = s; plan = p'; other = q'; to = to; targets = targets; turned = turned }) i))
     → IfOk r (λ answer. IsTrue answer ↔ MatchingHolds s p q m)
 all_reported s p q p' q' m to turned targets is is' same same' aim entered directed apart (Err e) contents = tt

@@ -23,7 +23,7 @@ use Rattle.edi_matching.specs.Differences.{MatchesBeside, MatchesFaces}
 use Rattle.edi_matching.specs.Matchings.{GoesTo, IsMatched, MatchingHolds, targets_of}
 use Rattle.edi_matching.specs.declared.matching.Matching.{Matching}
 use Rattle.edi_matching.specs.inner.Faces.{HasBeside, IsLeftFor}
-use Rattle.edi_matching.specs.inner.Links.{AddsOnly, AreReached, IsFree, matching_so}
+use Rattle.edi_matching.specs.inner.Links.{AddsOnly, AreReached, IsFreeFor, matching_so}
 use Rattle.edi_matching.specs.inner.Proposals.{Proposal}
 use Rattle.edi_matching.proofs.RecordsAdded.{AreAdded, carried_alike, last_or, matched_after, none_added, one_added, unmarked, went_here}
 
@@ -90,7 +90,7 @@ one_beside m joined joined' role arc f g k l b d =
 -- the arcs so far were looked at: none that is left has a free one
 pub record AreFacesAdded (role : Role) (m : Proposal) (before : List Bool) (to : List (Option ℕ)) (reached : List Bool) (done : ℕ) : Type 0 where
   pub added : AreAdded Pfe m before to reached
-  pub none_left : (n arc f g : ℕ) → n < done → get_or (places_of Par m.plan) n 0 ≡ arc → HasBeside m role arc f g → ¬ (IsMatched to f) → ¬ (IsFree m reached f g)
+  pub none_left : (n arc f g : ℕ) → n < done → get_or (places_of Par m.plan) n 0 ≡ arc → HasBeside m role arc f g → ¬ (IsMatched to f) → ¬ (IsFreeFor m reached f g)
 
 -- nothing is added yet
 pub no_faces : (role : Role) (m : Proposal) (reached : List Bool) → MatchingHolds m.classes m.plan m.other (matching_so m m.to) → AreReached m.to (length m.other.list) reached
@@ -104,10 +104,10 @@ module _ (role : Role) (m : Proposal) (before : List Bool) (to : List (Option �
   same_arc n arc same there = sym there ∙ (ap (λ x. get_or (places_of Par m.plan) x 0) same ∙ at)
 
   -- its face stays as it is
-  pub no_face : ((f g : ℕ) → HasBeside m role i f g → ¬ (IsMatched to f) → ¬ (IsFree m reached f g)) → AreFacesAdded role m before to reached (done + 1)
+  pub no_face : ((f g : ℕ) → HasBeside m role i f g → ¬ (IsMatched to f) → ¬ (IsFreeFor m reached f g)) → AreFacesAdded role m before to reached (done + 1)
   no_face none = record { added = are.added; none_left = λ n arc f g h there b left. go n arc f g (last_or n done h) there b left }
     where
-      go : (n arc f g : ℕ) → (n < done) ⊎ (n ≡ done) → get_or (places_of Par m.plan) n 0 ≡ arc → HasBeside m role arc f g → ¬ (IsMatched to f) → ¬ (IsFree m reached f g)
+      go : (n arc f g : ℕ) → (n < done) ⊎ (n ≡ done) → get_or (places_of Par m.plan) n 0 ≡ arc → HasBeside m role arc f g → ¬ (IsMatched to f) → ¬ (IsFreeFor m reached f g)
       go n arc f g (inl less) there b left = are.none_left n arc f g less there b left
       go n arc f g (inr same) there b left = none f g (subst (λ (x : ℕ). HasBeside m role x f g) (same_arc n arc same there) b) left
 
@@ -125,7 +125,7 @@ module _ (role : Role) (m : Proposal) (before : List Bool) (to : List (Option �
       went : IsMatched (set to f (Some g)) f
       went = (g, went_here Pfe m before to reached are.added targets entered f here kind left.left g left.free)
 
-      go : (n arc k l : ℕ) → (n < done) ⊎ (n ≡ done) → get_or (places_of Par m.plan) n 0 ≡ arc → HasBeside m role arc k l → ¬ (IsMatched (set to f (Some g)) k) → ¬ (IsFree m (set reached g true) k l)
+      go : (n arc k l : ℕ) → (n < done) ⊎ (n ≡ done) → get_or (places_of Par m.plan) n 0 ≡ arc → HasBeside m role arc k l → ¬ (IsMatched (set to f (Some g)) k) → ¬ (IsFreeFor m (set reached g true) k l)
       go n arc k l (inl less) there d alone free =
           are.none_left n arc k l less there d (λ matched. alone (matched_after Pfe m before to reached are.added targets entered f here kind left.left g left.free k matched))
           (record { there = free.there; free = unmarked Pfe m before to reached are.added targets entered f here kind left.left g left.free l free.free; ends = free.ends; carried = free.carried })
@@ -159,11 +159,11 @@ all_faces role m before to reached done are all whole joined side targets arc f 
     go false e = e
 
 -- the one isn't left for the other
-pub forced_none : (m : Proposal) (marks : List Bool) (to : List (Option ℕ)) (f g : ℕ) → ¬ (IsLeftFor m marks to f g) → (k l : ℕ) → (k ≡ f) × (l ≡ g) → ¬ (IsMatched to k) → ¬ (IsFree m marks k l)
+pub forced_none : (m : Proposal) (marks : List Bool) (to : List (Option ℕ)) (f g : ℕ) → ¬ (IsLeftFor m marks to f g) → (k l : ℕ) → (k ≡ f) × (l ≡ g) → ¬ (IsMatched to k) → ¬ (IsFreeFor m marks k l)
 forced_none m marks to f g none k l same left free =
     none (record {
       left = go (get_or to f None) refl;
-      free = subst (λ (x : ℕ). IsFree m marks x g) same.0 (subst (IsFree m marks k) same.1 free);
+      free = subst (λ (x : ℕ). IsFreeFor m marks x g) same.0 (subst (IsFreeFor m marks k) same.1 free);
     })
   where
     go : (o : Option ℕ) → get_or to f None ≡ o → get_or to f None ≡ None

@@ -24,7 +24,7 @@ use Rattle.std.specs.Option.{is_some}
 use Rattle.edi_rank.specs.contracts.keys.LinkKeyOrd.TheImpl.{ghosts as links}
 use Rattle.edi_rank.proofs.KeyOrders.{link_order}
 use Rattle.edi_matching.specs.Matchings.{IsMatched, MatchingHolds, targets_of}
-use Rattle.edi_matching.specs.inner.Links.{IsFree, IsLeftIfAny, IsMissedIfAny, IsMoreReached, ListsFree, matching_so, moved_key}
+use Rattle.edi_matching.specs.inner.Links.{IsFreeFor, IsLeftIfAny, IsMissedIfAny, IsMoreReached, ListsFree, matching_so, moved_key}
 use Rattle.edi_matching.specs.inner.Proposals.{Proposal}
 use Rattle.edi_matching.proofs.Totals.{target_is}
 
@@ -74,7 +74,7 @@ module _ (m : Proposal) (is : m.targets ≡ targets_of m.to) (holds : MatchingHo
 
   -- so where no free link has its key, it is carried onto none
   pub none_missed : (free marks : List Bool) (pairs : List (LinkKey × ℕ)) → (record_at m.plan i).kind ≡ Lnk → ListsFree m.other free pairs → IsMoreReached free marks
-      → (key : LinkKey) → key ≡ moved_key m.plan to_there class_there (record_at m.plan i) → All (λ (pair : LinkKey × ℕ). link_key_cmp pair.0 key ≢ Equal) pairs → (j : ℕ) → ¬ (IsFree m marks i j)
+      → (key : LinkKey) → key ≡ moved_key m.plan to_there class_there (record_at m.plan i) → All (λ (pair : LinkKey × ℕ). link_key_cmp pair.0 key ≢ Equal) pairs → (j : ℕ) → ¬ (IsFreeFor m marks i j)
   none_missed free marks pairs link lists more key key_is none j missed =
       let listed = lists j missed.there (missed.carried.kind ∙ link) (more j missed.free) in
       let pair : LinkKey × ℕ = (link_key m.other (λ k. k) (record_at m.other j), j) in

@@ -12,14 +12,14 @@ use Rattle.edi_rank.specs.Labelling.{turned_at}
 use Rattle.edi_rank.specs.Same.{CarriesRecord}
 use Rattle.edi_matching.specs.Differences.{MatchesLinks}
 use Rattle.edi_matching.specs.Matchings.{IsMatched, MatchingHolds, targets_of}
-use Rattle.edi_matching.specs.inner.Links.{AreReached, IsFree, matching_so}
+use Rattle.edi_matching.specs.inner.Links.{AreReached, IsFreeFor, matching_so}
 use Rattle.edi_matching.specs.inner.Proposals.{Proposal}
 use Rattle.edi_matching.proofs.RecordsAdded.{AreAdded, carried_before, last_or, matched_after, none_added, one_added, unmarked, went_here}
 
 -- the links so far were looked at: none that is left has a free one
 pub record AreLinksAdded (m : Proposal) (before : List Bool) (to : List (Option ℕ)) (reached : List Bool) (done : ℕ) : Type 0 where
   pub added : AreAdded Lnk m before to reached
-  pub none_left : (n i : ℕ) → n < done → get_or (places_of Lnk m.plan) n 0 ≡ i → ¬ (IsMatched to i) → (j : ℕ) → ¬ (IsFree m reached i j)
+  pub none_left : (n i : ℕ) → n < done → get_or (places_of Lnk m.plan) n 0 ≡ i → ¬ (IsMatched to i) → (j : ℕ) → ¬ (IsFreeFor m reached i j)
 
 -- nothing is added yet
 pub no_links : (m : Proposal) (reached : List Bool) → MatchingHolds m.classes m.plan m.other (matching_so m m.to) → AreReached m.to (length m.other.list) reached → AreLinksAdded m reached m.to reached 0
@@ -31,24 +31,24 @@ module _ (m : Proposal) (before : List Bool) (to : List (Option ℕ)) (reached :
   same_place n k same there = sym at ∙ (ap (λ x. get_or (places_of Lnk m.plan) x 0) (sym same) ∙ there)
 
   -- it stays as it is
-  pub no_more : (¬ (IsMatched to i) → (j : ℕ) → ¬ (IsFree m reached i j)) → AreLinksAdded m before to reached (done + 1)
+  pub no_more : (¬ (IsMatched to i) → (j : ℕ) → ¬ (IsFreeFor m reached i j)) → AreLinksAdded m before to reached (done + 1)
   no_more none = record { added = are.added; none_left = λ n k h here left j. go n k (last_or n done h) here left j }
     where
-      go : (n k : ℕ) → (n < done) ⊎ (n ≡ done) → get_or (places_of Lnk m.plan) n 0 ≡ k → ¬ (IsMatched to k) → (j : ℕ) → ¬ (IsFree m reached k j)
+      go : (n k : ℕ) → (n < done) ⊎ (n ≡ done) → get_or (places_of Lnk m.plan) n 0 ≡ k → ¬ (IsMatched to k) → (j : ℕ) → ¬ (IsFreeFor m reached k j)
       go n k (inl less) here left j = are.none_left n k less here left j
       go n k (inr same) here left j =
           let is = same_place n k same here in
-          λ missed. none (λ matched. left (subst (IsMatched to) is matched)) j (subst (λ (x : ℕ). IsFree m reached x j) (sym is) missed)
+          λ missed. none (λ matched. left (subst (IsMatched to) is matched)) j (subst (λ (x : ℕ). IsFreeFor m reached x j) (sym is) missed)
 
   -- it goes to a free one
-  pub one_link : m.targets ≡ targets_of m.to → length m.to ≡ length m.plan.list → IsPlace m.plan i → (record_at m.plan i).kind ≡ Lnk → get_or to i None ≡ None → (j : ℕ) → IsFree m reached i j
+  pub one_link : m.targets ≡ targets_of m.to → length m.to ≡ length m.plan.list → IsPlace m.plan i → (record_at m.plan i).kind ≡ Lnk → get_or to i None ≡ None → (j : ℕ) → IsFreeFor m reached i j
       → AreLinksAdded m before (set to i (Some j)) (set reached j true) (done + 1)
   one_link targets entered here link left j missed = record {
     added = one_added Lnk m before to reached are.added targets entered i here link left j missed;
     none_left = λ n k h there alone l. go n k (last_or n done h) there alone l;
   }
     where
-      go : (n k : ℕ) → (n < done) ⊎ (n ≡ done) → get_or (places_of Lnk m.plan) n 0 ≡ k → ¬ (IsMatched (set to i (Some j)) k) → (l : ℕ) → ¬ (IsFree m (set reached j true) k l)
+      go : (n k : ℕ) → (n < done) ⊎ (n ≡ done) → get_or (places_of Lnk m.plan) n 0 ≡ k → ¬ (IsMatched (set to i (Some j)) k) → (l : ℕ) → ¬ (IsFreeFor m (set reached j true) k l)
       go n k (inl less) there alone l free =
           are.none_left n k less there (λ matched. alone (matched_after Lnk m before to reached are.added targets entered i here link left j missed k matched)) l
           (record { there = free.there; free = unmarked Lnk m before to reached are.added targets entered i here link left j missed l free.free; ends = free.ends; carried = free.carried })

@@ -14,8 +14,8 @@ use Rattle.edi_matching.specs.declared.contents.Contents.{Contents}
 use Rattle.edi_matching.specs.declared.entries.ContentKey.{ContentKey}
 use Rattle.edi_matching.specs.inner.Additions.{AreAlike, HasKey, IsFirstFrom}
 use Rattle.edi_matching.specs.inner.Contents.{AreContents, IsContentNumber, IsNumberIn}
-use Rattle.edi_matching.specs.inner.Entries.{contents_of}
-use Rattle.edi_matching.specs.inner.Proposals.{IsCarried, Proposal}
+use Rattle.edi_matching.specs.inner.Entries.{content_key_of}
+use Rattle.edi_matching.specs.inner.Proposals.{IsCarriedOnto, Proposal}
 use Rattle.edi_matching.proofs.FacesAdded.{no_ends}
 use Rattle.edi_matching.proofs.PartnersHold.{same_class}
 
@@ -60,14 +60,14 @@ module _ {K X : Type 0} (cmp : K → K → Ordering) (eq : K → K → Bool) (or
       go (inr up) (inr down) = let same : k.at ≡ h.at = omega (arith, up, down) in one_answer h.at n m h.is (subst (λ (at : ℕ). Is at m) same k.is)
 
 -- what two records hold that have one class, the same attributes and the same extra zones
-held_alike : (a b : PlanRecord) → b.class ≡ a.class → IsPermutation a.attributes b.attributes → b.extras ≡ a.extras → contents_of b ≡ contents_of a
+held_alike : (a b : PlanRecord) → b.class ≡ a.class → IsPermutation a.attributes b.attributes → b.extras ≡ a.extras → content_key_of b ≡ content_key_of a
 held_alike a b class attributes extras =
     let sorted = sort_by-same attribute_cmp attribute_total attribute_exact a.attributes b.attributes (counts_from_permutation _ _ attributes) in
     λ i. record { class = class i; attributes = sym sorted i; extras = extras i }
 
 module _ (cmp : ContentKey → ContentKey → Ordering) (eq : ContentKey → ContentKey → Bool) (kind : Kind) (p q : PlanData) (contents : Contents) (are : AreContents cmp eq kind p q contents) where
-  alike_numbers : (a b : PlanRecord) (n m : ℕ) → b.kind ≡ a.kind → contents_of b ≡ contents_of a → IsContentNumber cmp eq kind are.order a n → IsContentNumber cmp eq kind are.order b m → n ≡ m
-  alike_numbers a b n m same held (inl h) (inl k) = one_number cmp eq are.order (contents_of a) n m h.1 (subst (λ (x : ContentKey). IsNumberIn cmp eq are.order x m) held k.1)
+  alike_numbers : (a b : PlanRecord) (n m : ℕ) → b.kind ≡ a.kind → content_key_of b ≡ content_key_of a → IsContentNumber cmp eq kind are.order a n → IsContentNumber cmp eq kind are.order b m → n ≡ m
+  alike_numbers a b n m same held (inl h) (inl k) = one_number cmp eq are.order (content_key_of a) n m h.1 (subst (λ (x : ContentKey). IsNumberIn cmp eq are.order x m) held k.1)
   alike_numbers a b n m same held (inl h) (inr k) = absurd (k.0 (same ∙ h.0))
   alike_numbers a b n m same held (inr h) (inl k) = absurd (h.0 (sym same ∙ k.0))
   alike_numbers a b n m same held (inr h) (inr k) = h.1 ∙ sym k.1
@@ -81,7 +81,7 @@ module _ (cmp : ContentKey → ContentKey → Ordering) (eq : ContentKey → Con
 
 -- and a face that is carried onto another
 pub one_if_carried : (cmp : ContentKey → ContentKey → Ordering) (eq : ContentKey → ContentKey → Bool) (m : Proposal) (contents : Contents) → AreContents cmp eq Pfe m.plan m.other contents
-    → IsWholePlan m.plan → (f g : ℕ) → IsPlace m.plan f → IsPlace m.other g → (record_at m.plan f).kind ≡ Pfe → IsCarried m f g → get_or contents.here.items f 0 ≡ get_or contents.there.items g 0
+    → IsWholePlan m.plan → (f g : ℕ) → IsPlace m.plan f → IsPlace m.other g → (record_at m.plan f).kind ≡ Pfe → IsCarriedOnto m f g → get_or contents.here.items f 0 ≡ get_or contents.there.items g 0
 one_if_carried cmp eq m contents are whole f g here there face carried =
     let a = record_at m.plan f in
     let b = record_at m.other g in

@@ -5,7 +5,7 @@ use Rattle.std.proofs.lemmas.List.{get_or-set_other, get_or-set_same, get_or_pas
 use Rattle.edi_plan.specs.Plans.{PlanData}
 use Rattle.edi_matching.specs.Matchings.{GoesTo}
 use Rattle.edi_matching.specs.inner.Inverses.{Grows}
-use Rattle.edi_matching.specs.inner.Additions.{AddsPairs, AreAlike, AreFree, IsAdded, IsKept, IsPaired, PairsIfAlike, PairsIfBoth, PairsIfFree}
+use Rattle.edi_matching.specs.inner.Additions.{AddsPairs, AreAlike, AreFree, IsAdded, IsKept, IsAddedPair, PairsIfAlike, PairsIfBoth, PairsIfFree}
 
 -- a place that isn't taken is one of those that there are
 pub free_within : (taken : List Bool) (j : ℕ) → get_or taken j true ≡ false → j < length taken
@@ -90,7 +90,7 @@ module _ (Pair : ℕ → ℕ → Type 0) (to : List (Option ℕ)) (taken : List 
     marked = λ l e. new_mark l (cases_eq l j) e;
   }
 
-pub adds_paired : (Pair : ℕ → ℕ → Type 0) (i j : ℕ) (to : List (Option ℕ)) (taken : List Bool) (more : List (Option ℕ)) (marks : List Bool) → Pair i j → IsPaired i j to taken more marks
+pub adds_paired : (Pair : ℕ → ℕ → Type 0) (i j : ℕ) (to : List (Option ℕ)) (taken : List Bool) (more : List (Option ℕ)) (marks : List Bool) → Pair i j → IsAddedPair i j to taken more marks
     → AddsPairs Pair to taken more marks
 adds_paired Pair i j to taken more marks pair paired =
     subst (λ (ts : List (Option ℕ)). AddsPairs Pair to taken ts marks) (sym paired.goes)

@@ -14,7 +14,7 @@ use Rattle.edi_rank.proofs.KeysPreserved.{all_weaker}
 use Rattle.edi_rank.proofs.SameLaws.{map_alike}
 use Rattle.edi_matching.specs.Differences.{IsReached}
 use Rattle.edi_matching.specs.Matchings.{GoesTo, IsMatched, MatchingHolds, targets_of}
-use Rattle.edi_matching.specs.inner.Links.{AddsOnly, AreReached, IsFree, IsMoreReached, matching_so}
+use Rattle.edi_matching.specs.inner.Links.{AddsOnly, AreReached, IsFreeFor, IsMoreReached, matching_so}
 use Rattle.edi_matching.specs.inner.Proposals.{Proposal}
 use Rattle.edi_matching.proofs.Totals.{target_is}
 
@@ -97,7 +97,7 @@ none_added kind m reached holds are = record {
 -- one record more, which goes to one that isn't marked
 module _ (kind : Kind) (m : Proposal) (before : List Bool) (to : List (Option ℕ)) (reached : List Bool) (are : AreAdded kind m before to reached)
     (targets : m.targets ≡ targets_of m.to) (entered : length m.to ≡ length m.plan.list) (i : ℕ) (here : IsPlace m.plan i) (is : (record_at m.plan i).kind ≡ kind)
-    (left : get_or to i None ≡ None) (j : ℕ) (missed : IsFree m reached i j) where
+    (left : get_or to i None ≡ None) (j : ℕ) (missed : IsFreeFor m reached i j) where
   abbrev after : List (Option ℕ)
   after = set to i (Some j)
 

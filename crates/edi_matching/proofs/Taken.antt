@@ -3,7 +3,7 @@ use Rattle.std.proofs.Common.{◌≡◌, ◌≢◌, ℕ, ◌+◌, ◌<◌, ◌�
 use Rattle.std.proofs.lemmas.Bool.{cases_eq, cases_lt}
 use Rattle.std.proofs.lemmas.List.{get_or-set_other, get_or-set_same, length-set}
 use Rattle.edi_matching.specs.Matchings.{GoesTo}
-use Rattle.edi_matching.specs.inner.Marks.{AreApart, Marks, IsTaken}
+use Rattle.edi_matching.specs.inner.Marks.{GoApart, Marks, IsMarkedOrNone}
 use Rattle.edi_matching.proofs.Totals.{goes_within}
 
 -- the places that the first records go to are marked, and these alone; no two go to one
@@ -93,14 +93,14 @@ module _ (to : List (Option ℕ)) (met new : List Bool) (n done place : ℕ) (ar
   }
 
 -- a place that there isn't, or that is taken
-pub not_apart : (to : List (Option ℕ)) (met : List Bool) (n done place : ℕ) → AreTaken to met n done → get_or to done None ≡ Some place → IsTaken met place → AreApart to n → ⊥
+pub not_apart : (to : List (Option ℕ)) (met : List Bool) (n done place : ℕ) → AreTaken to met n done → get_or to done None ≡ Some place → IsMarkedOrNone met place → GoApart to n → ⊥
 not_apart to met n done place are goes (inl past) apart = let less : place < n = apart.within done place goes in omega (arith, are.long)
 not_apart to met n done place are goes (inr taken) apart =
     let w = are.found place taken in
     let same : w.0 ≡ done = apart.apart w.0 done place w.2 goes in
     omega (arith, w.1, same)
 
-pub all_apart : (to : List (Option ℕ)) (met : List Bool) (n : ℕ) → AreTaken to met n (length to) → AreApart to n
+pub all_apart : (to : List (Option ℕ)) (met : List Bool) (n : ℕ) → AreTaken to met n (length to) → GoApart to n
 all_apart to met n are = record {
   within = λ i j e. are.within i j (goes_within to i j e) e;
   apart = λ i k j e f. are.apart i k j (goes_within to i j e) (goes_within to k j f) e f;

@@ -5,7 +5,7 @@ ghost use Rattle.std.specs.Prelude.{◌≡◌, ℕ, filter_map, length, IfOk, Is
 ghost use Rattle.edi_plan.specs.Places.{places_of};
 ghost use Rattle.edi_plan.specs.Plans.{IsPlace, record_at};
 ghost use Rattle.edi_matching.specs.inner.Additions.{AreInOrder};
-ghost use Rattle.edi_matching.specs.inner.Contents.{AreContents, AreNumbersOf, IsContentNumber, IsNumberIn, held_at};
+ghost use Rattle.edi_matching.specs.inner.Contents.{AreContents, AreContentNumbers, IsContentNumber, IsNumberIn, held_at};
 
 use crate::added::has_key;
 use crate::entries::{ContentKey, contents_at, push_contents};
@@ -70,7 +70,7 @@ fn numbers_of(
 ) -> Result<Vec<usize>, AllocError>
     requires { AreInOrder ⟦<ContentKey<'static> as Ord>⟧.cmp order.now }
     ensures { IfOk result (λ numbers.
-        AreNumbersOf ⟦<ContentKey<'static> as Ord>⟧.cmp ⟦<ContentKey<'static> as PartialEq>⟧.eq kind order.now plan.now
+        AreContentNumbers ⟦<ContentKey<'static> as Ord>⟧.cmp ⟦<ContentKey<'static> as PartialEq>⟧.eq kind order.now plan.now
         numbers.items) }
 {
     let mut numbers = Vec::with_capacity(alloc, plan.len() as usize)?;

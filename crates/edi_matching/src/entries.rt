@@ -7,7 +7,7 @@ ghost use Rattle.edi_plan.specs.Agreeing.{HasClasses};
 ghost use Rattle.edi_plan.specs.Places.{places_of};
 ghost use Rattle.edi_plan.specs.Plans.{IsPlace, record_at};
 ghost use Rattle.edi_rank.specs.Keys.{link_key_cmp};
-ghost use Rattle.edi_matching.specs.inner.Entries.{all_there, content_beside, content_entries, content_entry, contents_of, end_there, ends_there, keyed_places, link_entries, link_key_with, link_there, neighbour_entries, neighbour_entry, object_among};
+ghost use Rattle.edi_matching.specs.inner.Entries.{all_there, content_beside, content_entries, content_entry, content_key_of, end_there, ends_there, keyed_places, link_entries, link_key_with, link_there, neighbour_entries, neighbour_entry, object_among};
 ghost use Rattle.edi_matching.specs.inner.Ranked.{member_at};
 
 use crate::added::target_of;
@@ -238,7 +238,7 @@ pub(crate) fn contents_at(
     place: u32,
 ) -> Result<ContentKey<'_>, AllocError>
     requires { IsPlace plan.now place }
-    ensures { IfOk result (λ key. key ≡ contents_of (record_at plan.now place)) }
+    ensures { IfOk result (λ key. key ≡ content_key_of (record_at plan.now place)) }
 {
     let attributes = sorted_attributes(alloc, plan.attributes(place))?;
     Ok(ContentKey {

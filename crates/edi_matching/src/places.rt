@@ -2,13 +2,13 @@
 
 ghost use Rattle.std.specs.Prelude.{◌≡◌, ◌↔◌, ℕ, IfOk, IsTrue, MatchBool, false, length, slice_index_or};
 ghost use Rattle.edi_matching.specs.Matchings.{targets_of};
-ghost use Rattle.edi_matching.specs.inner.Marks.{AreApart, IsMarking, IsTaken, Marks};
+ghost use Rattle.edi_matching.specs.inner.Marks.{GoApart, IsMarking, IsMarkedOrNone, Marks};
 
 use std::alloc::{AllocError, Global};
 
 /// Whether the places are of the first so many, and none is met twice.
 pub(crate) fn are_apart(alloc: Global, to: &[Option<u32>], count: u32) -> Result<bool, AllocError>
-    ensures { IfOk result (λ answer. IsTrue answer ↔ AreApart to.now count) }
+    ensures { IfOk result (λ answer. IsTrue answer ↔ GoApart to.now count) }
 {
     let mut met = vec![in alloc; false; count as usize]?;
     Ok(mark_all(&mut met, to))
@@ -17,7 +17,7 @@ pub(crate) fn are_apart(alloc: Global, to: &[Option<u32>], count: u32) -> Result
 /// Marks the places, of which none is marked yet, until one is met that there isn't or that is marked already.
 fn mark_all(met: &mut [bool], to: &[Option<u32>]) -> bool
     requires { (j : ℕ) → slice_index_or met.old j false ≡ false }
-    ensures { IsTrue result ↔ AreApart to.now (length met.old) }
+    ensures { IsTrue result ↔ GoApart to.now (length met.old) }
 {
     for target in to {
         if !mark(met, *target) {
@@ -38,7 +38,7 @@ fn mark(met: &mut [bool], target: Option<u32>) -> bool
 }
 
 fn mark_place(met: &mut [bool], place: u32) -> bool
-    ensures { MatchBool result (Marks met.old met.new place) (IsTaken met.old place) }
+    ensures { MatchBool result (Marks met.old met.new place) (IsMarkedOrNone met.old place) }
 {
     let at = place as usize;
     if at >= met.len() || met[at] {

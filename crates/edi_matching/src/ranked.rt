@@ -7,7 +7,7 @@ ghost use Rattle.std.specs.Hash.FoldHasher as folding;
 ghost use Rattle.edi_plan.specs.Plans.{record_at};
 ghost use Rattle.edi_rank.specs.Labelling.{number_of, order_of, turned_at};
 ghost use Rattle.edi_matching.specs.inner.Checksums.{sum_of};
-ghost use Rattle.edi_matching.specs.inner.Ranked.{end_checksum, ends_input, fingerprint_of, forward_sides, member_at, record_input, records_input, role_after, role_number, text_input, type_input};
+ghost use Rattle.edi_matching.specs.inner.Ranked.{end_checksum, ends_input, fingerprint_of, forward_sides, member_at, record_input, records_input, role_after_reversals, role_number, text_input, type_input};
 
 use crate::checksum::record_checksum;
 use edi_line::Text;
@@ -108,7 +108,7 @@ impl<'a> Ranked<'a> {
     /// Which kind a link is of after the reversals.
     fn role_after(self, place: u32) -> Role
         requires { place < length self.plan.now.list }
-        ensures { result ≡ role_after self.entry.labels.now (record_at self.entry.plan.now place) }
+        ensures { result ≡ role_after_reversals self.entry.labels.now (record_at self.entry.plan.now place) }
     {
         let role = self.plan.role(place);
         if self.is_any_backward(self.plan.ends(place)) {

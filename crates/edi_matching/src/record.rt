@@ -6,7 +6,7 @@ ghost use Rattle.edi_record.specs.declared.record.Kind.TheVariants.{Par};
 ghost use Rattle.edi_plan.specs.Plans.{IsPlace, record_at};
 ghost use Rattle.edi_rank.specs.Labelling.{turned_at};
 ghost use Rattle.edi_matching.specs.Matchings.{GoesTo, IsMatched};
-ghost use Rattle.edi_matching.specs.inner.Proposals.{HoldsAt, IsCarried};
+ghost use Rattle.edi_matching.specs.inner.Proposals.{HoldsAt, IsCarriedOnto};
 
 use edi_compare::Carrier;
 use edi_plan::{Plan, PlanEnd};
@@ -28,7 +28,7 @@ pub(crate) struct Proposed<'a> {
 }
 
 impl<'a> Model for Proposed<'a> {
-    ghost use Rattle.edi_matching.specs.inner.Proposals.{Proposal, IsFitting};
+    ghost use Rattle.edi_matching.specs.inner.Proposals.{Proposal, IsWithinPlans};
 
     ghost Value = { Proposal };
 
@@ -41,7 +41,7 @@ impl<'a> Model for Proposed<'a> {
       turned = p.turned.now;
     } };
 
-    ghost invariant = { λ p. IsFitting (record {
+    ghost invariant = { λ p. IsWithinPlans (record {
       classes = p.schema.now;
       plan = p.plan.now;
       other = p.other.now;
@@ -116,7 +116,7 @@ impl<'a> Proposed<'a> {
     ) -> Result<bool, AllocError>
         requires place { IsPlace self.now.plan place }
         requires target { IsPlace self.now.other target }
-        ensures { IfOk result (λ answer. IsTrue answer ↔ IsCarried self.now place target) }
+        ensures { IfOk result (λ answer. IsTrue answer ↔ IsCarriedOnto self.now place target) }
     {
         let carrier = Carrier {
             schema: self.schema,

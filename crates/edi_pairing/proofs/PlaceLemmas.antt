@@ -12,7 +12,7 @@ use Rattle.edi_record.specs.declared.record.Kind.{Kind}
 use Rattle.edi_record.specs.declared.record.Kind.TheVariants.{Pno, Par, Pfe, Fea, Lnk}
 use Rattle.edi_record.specs.contracts.record.KindPartialEq.TheImpl.{ghosts as kinds}
 use Rattle.edi_pairing.specs.Names.{AreNames, name_at}
-use Rattle.edi_pairing.specs.inner.Places.{name_of, IsPlaceIfAny}
+use Rattle.edi_pairing.specs.inner.Places.{owned_name, IsPlaceIfAny}
 use Rattle.edi_pairing.specs.declared.names.RecordName.{RecordName}
 use Rattle.edi_pairing.specs.declared.places.BorrowedName.{BorrowedName}
 use Rattle.edi_pairing.specs.contracts.places.BorrowedNamePartialEq.TheImpl.{ghosts as names}
@@ -57,14 +57,14 @@ both true false h = cc
 both false b h = cc
 
 -- two borrowed names that `==` holds equal are one name
-pub eq_name : (a b : BorrowedName) → names.eq a b ≡ true → name_of a ≡ name_of b
+pub eq_name : (a b : BorrowedName) → names.eq a b ≡ true → owned_name a ≡ owned_name b
 eq_name a b h =
     let parts = both (kinds.eq a.kind b.kind) (bytes_eq a.rid.now b.rid.now) h in
     let kind = kind_same a.kind b.kind parts.0 in
     let rid = (bytes_eq-Decides a.rid.now b.rid.now).0 parts.1 in
     λ i. record { kind = kind i; rid = rid i }
 
-pub name_eq : (a b : BorrowedName) → name_of a ≡ name_of b → names.eq a b ≡ true
+pub name_eq : (a b : BorrowedName) → owned_name a ≡ owned_name b → names.eq a b ≡ true
 name_eq a b h =
     let kind : kinds.eq a.kind b.kind ≡ true = subst (λ k. kinds.eq a.kind k ≡ true) (ap (λ (n : RecordName). n.kind) h) (kind_itself a.kind) in
     let rid : bytes_eq a.rid.now b.rid.now ≡ true = (bytes_eq-Decides a.rid.now b.rid.now).1 (ap (λ (n : RecordName). n.rid) h) in
@@ -74,13 +74,13 @@ name_eq a b h =
     go p q hp hq = cc
 
 -- a name that some key equals is one of the keys' names
-any_at : (name : BorrowedName) (keys : List BorrowedName) → list_any (names.eq name) keys ≡ true → (j : ℕ) × (j < length keys) × (name_at (map name_of keys) j ≡ name_of name)
+any_at : (name : BorrowedName) (keys : List BorrowedName) → list_any (names.eq name) keys ≡ true → (j : ℕ) × (j < length keys) × (name_at (map owned_name keys) j ≡ owned_name name)
 any_at name [] h = cc
 any_at name (k ∷ ks) h = go (names.eq name k) refl h (any_at name ks)
   where
     go : (b : Bool) → names.eq name k ≡ b → (b || list_any (names.eq name) ks) ≡ true
-        → (list_any (names.eq name) ks ≡ true → (j : ℕ) × (j < length ks) × (name_at (map name_of ks) j ≡ name_of name))
-        → (j : ℕ) × (j < suc (length ks)) × (name_at (name_of k ∷ map name_of ks) j ≡ name_of name)
+        → (list_any (names.eq name) ks ≡ true → (j : ℕ) × (j < length ks) × (name_at (map owned_name ks) j ≡ owned_name name))
+        → (j : ℕ) × (j < suc (length ks)) × (name_at (owned_name k ∷ map owned_name ks) j ≡ owned_name name)
     go true t h more = (0, omega arith, sym (eq_name name k t))
     go false t h more = let m = more h in (suc m.0, omega (arith, m.1), m.2)
 
@@ -90,30 +90,30 @@ bool_false false other = refl
 
 module _ (all : List RecordName) (are : AreNames all) where
   -- the next name goes last
-  pub name_added : (keys new : List BorrowedName) (i : ℕ) (name : BorrowedName) (x : RecordName) → i < length all → map name_of keys ≡ take i all → x ≡ get_or all i x → name_of name ≡ x → new ≡ insert_key names.eq keys name
-      → map name_of new ≡ take (i + 1) all
+  pub name_added : (keys new : List BorrowedName) (i : ℕ) (name : BorrowedName) (x : RecordName) → i < length all → map owned_name keys ≡ take i all → x ≡ get_or all i x → owned_name name ≡ x → new ≡ insert_key names.eq keys name
+      → map owned_name new ≡ take (i + 1) all
   name_added keys new i name x less e at is added =
-      let here : name_at all i ≡ name_of name = get_or_default all i _ x less ∙ (sym at ∙ sym is) in
-      let long : length keys ≡ i = sym (length-map keys name_of) ∙ (ap length e ∙ length-take-le i all (omega arith)) in
+      let here : name_at all i ≡ owned_name name = get_or_default all i _ x less ∙ (sym at ∙ sym is) in
+      let long : length keys ≡ i = sym (length-map keys owned_name) ∙ (ap length e ∙ length-take-le i all (omega arith)) in
       let alone : list_any (names.eq name) keys ≡ false = bool_false _ (λ t.
       let found = any_at name keys t in
       let below : found.0 < i = omega (arith, found.1, long) in
-      let there : name_at all found.0 ≡ name_of name = sym (get_or-take i all found.0 _ below) ∙ (ap (λ ns. name_at ns found.0) (sym e) ∙ found.2) in
+      let there : name_at all found.0 ≡ owned_name name = sym (get_or-take i all found.0 _ below) ∙ (ap (λ ns. name_at ns found.0) (sym e) ∙ found.2) in
       let same = are.distinct found.0 i (omega arith) less (there ∙ sym here) in
       omega (arith, same, below)) in
       let put : new ≡ keys ++ name ∷ [] = added ∙ ap (λ b. if b then keys else keys ++ name ∷ []) alone in
-      ap (map name_of) put ∙ (map-append name_of keys (name ∷ []) ∙ (ap (λ ns. ns ++ name_of name ∷ []) e ∙ (ap (λ n. take i all ++ n ∷ []) (is ∙ at) ∙ sym (take_more all i x less))))
+      ap (map owned_name) put ∙ (map-append owned_name keys (name ∷ []) ∙ (ap (λ ns. ns ++ owned_name name ∷ []) e ∙ (ap (λ n. take i all ++ n ∷ []) (is ∙ at) ∙ sym (take_more all i x less))))
 
 -- what a look-up finds
-pub place_found : (keys : List BorrowedName) (name : BorrowedName) (found : Option ℕ) → found ≡ position (names.eq name) keys → IsPlaceIfAny (map name_of keys) (name_of name) found
+pub place_found : (keys : List BorrowedName) (name : BorrowedName) (found : Option ℕ) → found ≡ position (names.eq name) keys → IsPlaceIfAny (map owned_name keys) (owned_name name) found
 place_found keys name None e = λ t less is.
-    let within : t < length keys = omega (arith, length-map keys name_of) in
+    let within : t < length keys = omega (arith, length-map keys owned_name) in
     let fails = fails_before_first (names.eq name) keys t name (omega (arith, place_at_None (names.eq name) keys (sym e))) in
-    let equal = name_eq name (get_or keys t name) (sym is ∙ get_or-map name_of keys t name _ within) in
+    let equal = name_eq name (get_or keys t name) (sym is ∙ get_or-map owned_name keys t name _ within) in
     absurd (true_false (sym equal ∙ fails))
   where
     true_false : true ≡ false → ⊥
     true_false h = cc
 place_found keys name (Some k) e =
     let at = position-Some (names.eq name) keys k name (sym e) in
-    (omega (arith, at.0, length-map keys name_of), get_or-map name_of keys k name _ at.0 ∙ sym (eq_name name (get_or keys k name) at.1))
+    (omega (arith, at.0, length-map keys owned_name), get_or-map owned_name keys k name _ at.0 ∙ sym (eq_name name (get_or keys k name) at.1))

@@ -14,7 +14,7 @@ use Rattle.edi_compare.specs.declared.fault.CompareFault.TheVariants as sheets
 use Rattle.edi_pairing.specs.Names.{AreNamesOf}
 use Rattle.edi_pairing.specs.WrongLines.{IsPairingRefusal}
 use Rattle.edi_pairing.specs.Verified.{IsUnpairedBy, IsVerifyRefusal, of_pairing, of_sheets}
-use Rattle.edi_pairing.specs.inner.Named.{IsNamed}
+use Rattle.edi_pairing.specs.inner.Named.{HasNamesOf}
 use Rattle.edi_pairing.specs.declared.verified.Unpaired.{Unpaired}
 use Rattle.edi_pairing.specs.declared.names.RecordName.{RecordName}
 use Rattle.edi_pairing.specs.declared.fault.PairingFault.{PairingFault}
@@ -32,7 +32,7 @@ sheets_refusal s a b file (sheets.Second f) h = h
 
 -- why a pairing doesn't carry, with the names of its records, says so of the names
 module _ (s : Classes) (p q : PlanData) (a b : List RecordName) (pairing : Pairing) (unpaired : Unpaired) where
-  pub unpaired_by : (why : Uncarried) → IsUncarriedBy s p q pairing why → IsNamed a b pairing why unpaired → IsUnpairedBy s p q a b pairing unpaired
+  pub unpaired_by : (why : Uncarried) → IsUncarriedBy s p q pairing why → HasNamesOf a b pairing why unpaired → IsUnpairedBy s p q a b pairing unpaired
   unpaired_by Entries is named = absurd named
   unpaired_by CharacterSets is named = subst (IsUnpairedBy s p q a b pairing) (sym named) is
   unpaired_by (Record i Nowhere) is named = absurd named

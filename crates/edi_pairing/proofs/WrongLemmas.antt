@@ -16,7 +16,7 @@ use Rattle.edi_pairing.specs.Names.{AreNames, is_mark, name_at}
 use Rattle.edi_pairing.specs.PairingText.{Begins, Pairs, line_end, line_of}
 use Rattle.edi_pairing.specs.WrongLines.{EndsInReturn, HasIdentifier, HasName, IsFirstReason, IsLineOf, SaysOfLine, is_line_feed, reason_order}
 use Rattle.edi_pairing.specs.inner.Reading.{BeginsWith, IsCutAtMark}
-use Rattle.edi_pairing.specs.inner.Wrong.{IsNoPair, IsUnread, IsWhole}
+use Rattle.edi_pairing.specs.inner.Wrong.{IsNoPair, IsUnreadLine, BeginsWithLine}
 use Rattle.edi_pairing.specs.declared.fault.WrongLine.{WrongLine}
 use Rattle.edi_pairing.specs.declared.fault.WrongLine.TheVariants.{Missing, Extra, Unended, CarriageReturn, Head, Form, OtherRecord, SecondSheet, NoRecord, NoPartner, OtherType}
 use Rattle.edi_pairing.specs.declared.names.RecordName.{RecordName}
@@ -237,7 +237,7 @@ module _ (a b : List RecordName) (line : ℕ) (next : RecordName) (text : List �
     before_return : list_any is_line_feed text ≡ true → (w : WrongLine) → reason_order w < 3 → ¬ (SaysOfLine a b line next text w)
     before_return ended = one_more (λ w. ¬ (SaysOfLine a b line next text w)) Unended (before_ended (ended_some text ended)) (λ e. true_false (sym ended ∙ e))
 
-    pub unread_first : (why : WrongLine) → IsUnread text why → IsFirstReason a b line next text why
+    pub unread_first : (why : WrongLine) → IsUnreadLine text why → IsFirstReason a b line next text why
     unread_first Missing h = record { so = h; first = none }
     unread_first Unended h = record { so = h.1; first = before_ended h.0 }
     unread_first CarriageReturn h = record { so = h; first = before_return (returned_ended text h) }
@@ -250,7 +250,7 @@ module _ (a b : List RecordName) (line : ℕ) (next : RecordName) (text : List �
     unread_first NoPartner h = absurd h
     unread_first OtherType h = absurd h
 
-    module _ (whole : IsWhole text) where
+    module _ (whole : BeginsWithLine text) where
       before_head : (w : WrongLine) → reason_order w < 4 → ¬ (SaysOfLine a b line next text w)
       before_head = one_more (λ w. ¬ (SaysOfLine a b line next text w)) CarriageReturn (before_return whole.ended) whole.plain
 

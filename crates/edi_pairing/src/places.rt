@@ -6,7 +6,7 @@ ghost use Rattle.std.proofs.Common.{rules};
 ghost use Rattle.edi_hash.specs.Keys.{keyed_by};
 ghost use Rattle.edi_record.specs.contracts.record.KindHash.TheImpl.{ghosts as kinds};
 ghost use Rattle.edi_pairing.specs.Names.{AreNames};
-ghost use Rattle.edi_pairing.specs.inner.Places.{name_of, IsPlaceIfAny};
+ghost use Rattle.edi_pairing.specs.inner.Places.{owned_name, IsPlaceIfAny};
 
 use crate::names::{RecordName, RecordNames};
 use edi_hash::{KeyNames, NameHash};
@@ -43,14 +43,14 @@ pub(crate) struct PlacesByName<'a> {
 impl<'a> Model for PlacesByName<'a> {
     ghost use Rattle.std.specs.Prelude.{List, map};
     ghost use Rattle.edi_pairing.specs.Names.{AreNames};
-    ghost use Rattle.edi_pairing.specs.inner.Places.{name_of};
+    ghost use Rattle.edi_pairing.specs.inner.Places.{owned_name};
     ghost use Rattle.edi_pairing.specs.declared.names.RecordName.{RecordName};
 
     ghost Value = { List RecordName };
 
-    ghost view = { λ p. map name_of p.names.keys };
+    ghost view = { λ p. map owned_name p.names.keys };
 
-    ghost invariant = { λ p. AreNames (map name_of p.names.keys) };
+    ghost invariant = { λ p. AreNames (map owned_name p.names.keys) };
 }
 
 /// The hash for these names, under a key made of their identifiers. Their types are left out: one identifier makes five
@@ -66,7 +66,7 @@ fn hash_of(names: &[RecordName]) -> NameHash
 }
 
 fn borrowed(name: &RecordName) -> BorrowedName<'_>
-    ensures { name_of result ≡ name.now }
+    ensures { owned_name result ≡ name.now }
 {
     BorrowedName {
         kind: name.kind,

@@ -2,7 +2,7 @@
 
 ghost use Rattle.std.specs.Prelude.{◌≡◌, ◌<◌, IfOk, length, slice_index};
 ghost use Rattle.edi_pairing.specs.Verified.{pair_at};
-ghost use Rattle.edi_pairing.specs.inner.Named.{CanBeNamed, HasPair, IsNamed};
+ghost use Rattle.edi_pairing.specs.inner.Named.{CanBeNamed, HasPair, HasNamesOf};
 
 use crate::names::{RecordName, RecordNames};
 use edi_compare::{Pairing, RecordPart, Uncarried, WrongPartner};
@@ -59,7 +59,7 @@ pub(crate) fn unpaired_by(
     why: Uncarried,
 ) -> Result<Unpaired, AllocError>
     requires { CanBeNamed first.now second.now pairing.now why }
-    ensures { IfOk result (IsNamed first.now second.now pairing.now why) }
+    ensures { IfOk result (HasNamesOf first.now second.now pairing.now why) }
 {
     match why {
         Uncarried::Entries => unreachable!(),
@@ -84,7 +84,7 @@ fn wrong_partner(
     why: WrongPartner,
 ) -> Result<Unpaired, AllocError>
     requires { CanBeNamed first.now second.now pairing.now (Uncarried.Record place why) }
-    ensures { IfOk result (IsNamed first.now second.now pairing.now (Uncarried.Record place why)) }
+    ensures { IfOk result (HasNamesOf first.now second.now pairing.now (Uncarried.Record place why)) }
 {
     match why {
         WrongPartner::Nowhere => unreachable!(),

@@ -9,7 +9,7 @@ ghost use Rattle.edi_pairing.specs.Names.{is_mark, name_at};
 ghost use Rattle.edi_pairing.specs.PairingText.{head, line_end};
 ghost use Rattle.edi_pairing.specs.WrongLines.{HasIdentifier, HasName, IsFirstReason, IsLineOf};
 ghost use Rattle.edi_pairing.specs.inner.Reading.{BeginsWith};
-ghost use Rattle.edi_pairing.specs.inner.Wrong.{IsNoPair, IsUnread, IsWhole};
+ghost use Rattle.edi_pairing.specs.inner.Wrong.{IsNoPair, IsUnreadLine, BeginsWithLine};
 ghost use Rattle.edi_pairing.specs.declared.names.RecordName.{RecordName as Name};
 
 use crate::fault::WrongLine;
@@ -59,7 +59,7 @@ pub(crate) fn why_no_line(
 
 /// Why a text can't be read as a line.
 fn why_unread(text: &[u8]) -> Option<WrongLine>
-    ensures { MatchOption result (IsWhole text.now) (IsUnread text.now) }
+    ensures { MatchOption result (BeginsWithLine text.now) (IsUnreadLine text.now) }
 {
     if text.is_empty() {
         return Some(WrongLine::Missing);

@@ -16,8 +16,8 @@ StepsOn inputs why s siblings form path out err status =
     × Warns err step.err
 
 -- the output failed in the text of the sheet of a path, of which so many bytes went out
-abbrev pub StopsAt : Inputs → Classes → AnswerForm → List ℕ → Stream → Type 0
-StopsAt inputs s form path out =
+abbrev pub OutputStopsAt : Inputs → Classes → AnswerForm → List ℕ → Stream → Type 0
+OutputStopsAt inputs s form path out =
     (answer : Result (List ℕ) RunFault) × IsAnswerOf inputs s path answer × (answer_text form path answer ≢ [])
     × IsTrue out.failed × ((count : ℕ) × Prints out (take count (answer_text form path answer)))
 

@@ -8,9 +8,9 @@ use Rattle.edi_explain.specs.declared.site.RecordSite.{RecordSite}
 use Rattle.edi_line.specs.declared.broken.BrokenRule.{BrokenRule}
 
 -- these are the sites of the records of the file b
-abbrev pub HasSites : List ℕ → List RecordSite → Type 0
-HasSites b sites = (zones : List ZoneData) × IsZonesOf b zones × AreAllSites (groups_of zones) sites
+abbrev pub AreSitesOfFile : List ℕ → List RecordSite → Type 0
+AreSitesOfFile b sites = (zones : List ZoneData) × IsZonesOf b zones × AreAllSites (groups_of zones) sites
 
 -- and that where one of these rules is one of records
 abbrev pub HasSitesFor : List ℕ → List BrokenRule → List RecordSite → Type 0
-HasSitesFor b broken sites = All (λ it. 200 ≤ it.rule → HasSites b sites) broken
+HasSitesFor b broken sites = All (λ it. 200 ≤ it.rule → AreSitesOfFile b sites) broken

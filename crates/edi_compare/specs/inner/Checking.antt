@@ -22,7 +22,7 @@ pub record Matching : Type 0 where
   pub turned : List Bool
 
 -- each record has an entry
-pub record IsFitting (m : Matching) : Type 0 where
+pub record HasEntryForEach (m : Matching) : Type 0 where
   pub classed : HasClasses m.classes m.plan
   pub all_paired : length m.to ≡ length m.plan.list
   pub all_directed : length m.turned ≡ length m.plan.list
@@ -61,11 +61,11 @@ pub record AreCarried (m : Matching) : Type 0 where
   pub onto : (j : ℕ) → IsPlace m.other j → (i : ℕ) × IsPlace m.plan i × (slice_index m.to i ≡ j)
 
 -- what isn't so of two plans, where there is an entry for each record and one character set
-abbrev pub StopsAt : Matching → Uncarried → Type 0
-StopsAt m Entries = ⊥
-StopsAt m CharacterSets = ⊥
-StopsAt m (Record i why) = IsFirstUncarried m.classes (slice_index m.to) (turned_at m.turned) m.plan m.other i why
-StopsAt m (Unmet j) = IsFirstUnmet m.classes (slice_index m.to) (turned_at m.turned) m.plan m.other j
+abbrev pub FailsBy : Matching → Uncarried → Type 0
+FailsBy m Entries = ⊥
+FailsBy m CharacterSets = ⊥
+FailsBy m (Record i why) = IsFirstUncarried m.classes (slice_index m.to) (turned_at m.turned) m.plan m.other i why
+FailsBy m (Unmet j) = IsFirstUnmet m.classes (slice_index m.to) (turned_at m.turned) m.plan m.other j
 
 -- an end as it is compared
 abbrev pub placed_end : PlanEnd → MovedEnd

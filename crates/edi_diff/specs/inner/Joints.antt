@@ -10,15 +10,15 @@ use Rattle.edi_plan.specs.declared.record.PlanRecord.{PlanRecord}
 use Rattle.edi_diff.specs.declared.proposing.LinkClass.{LinkClass}
 use Rattle.edi_diff.specs.contracts.proposing.LinkClassOrd.TheImpl.{ghosts as link_classes}
 use Rattle.edi_diff.specs.inner.Codes.{code_at, is_of_second, place_by}
-use Rattle.edi_diff.specs.inner.Progress.{Progress, class_at, name_of, plan_of}
+use Rattle.edi_diff.specs.inner.Progress.{Progress, link_class_at, known_name, plan_of}
 
 -- that a link joins a record without a name with one that has a name, by the class of the link and that name; else
 -- nothing
 abbrev pub joint_of : Progress → ℕ → ℕ → ℕ → List (ℕ × (LinkClass × ℕ))
 joint_of m link place with_place =
-    if is_some (name_of m (is_of_second link) place) then []
-    else map (λ name. (code_at (is_of_second link) place, (class_at m (is_of_second link) (place_by link), name)))
-    (option_to_list (name_of m (is_of_second link) with_place))
+    if is_some (known_name m (is_of_second link) place) then []
+    else map (λ name. (code_at (is_of_second link) place, (link_class_at m (is_of_second link) (place_by link), name)))
+    (option_to_list (known_name m (is_of_second link) with_place))
 
 -- what a link joins: its origin with each other end, and that with its origin
 abbrev pub joints_by_ends : Progress → ℕ → List PlanEnd → List (ℕ × (LinkClass × ℕ))

@@ -20,7 +20,7 @@ use Rattle.edi_diff.specs.contracts.proposing.LinkClassOrd.TheImpl.{ghosts as li
 use Rattle.edi_diff.specs.declared.proposing.LinkClass.{LinkClass}
 use Rattle.edi_diff.specs.inner.Codes.{is_of_second, place_by}
 use Rattle.edi_diff.specs.inner.Joints.{joined_with, record_by}
-use Rattle.edi_diff.specs.inner.Progress.{Progress, class_at, name_of, plan_of}
+use Rattle.edi_diff.specs.inner.Progress.{Progress, link_class_at, known_name, plan_of}
 
 -- nodes and arcs
 abbrev pub has_points : Kind → Bool
@@ -77,11 +77,11 @@ all_known (None ∷ xs) = None
 all_known (Some x ∷ xs) = option_map (λ rest. x ∷ rest) (all_known xs)
 
 -- a link by its class and the names of its ends, if each has one
-abbrev pub ends_key : Progress → ℕ → Option (LinkClass × List ℕ)
-ends_key m code =
+abbrev pub named_ends_key : Progress → ℕ → Option (LinkClass × List ℕ)
+named_ends_key m code =
     if is_there (plan_of m (is_of_second code)) (place_by code) && is_link (record_by m code).kind
-    then option_map (λ names. (class_at m (is_of_second code) (place_by code), names))
-    (all_known (map (λ end. name_of m (is_of_second code) end.target) (record_by m code).ends))
+    then option_map (λ names. (link_class_at m (is_of_second code) (place_by code), names))
+    (all_known (map (λ end. known_name m (is_of_second code) end.target) (record_by m code).ends))
     else None
 
 -- keys by points go by type, then by points

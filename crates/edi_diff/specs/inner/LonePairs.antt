@@ -9,7 +9,7 @@ use Rattle.edi_diff.specs.declared.changes.Way.TheVariants.{Points, Contents, Jo
 use Rattle.edi_diff.specs.declared.proposing.LinkClass.{LinkClass}
 use Rattle.edi_diff.specs.inner.Codes.{is_of_second, place_by, proposal_by}
 use Rattle.edi_diff.specs.inner.Joints.{AreJoints}
-use Rattle.edi_diff.specs.inner.Keys.{contents_key, contents_key_cmp, ends_key, ends_key_cmp, joined_key, joined_key_cmp, points_key, points_key_cmp}
+use Rattle.edi_diff.specs.inner.Keys.{contents_key, contents_key_cmp, named_ends_key, ends_key_cmp, joined_key, joined_key_cmp, points_key, points_key_cmp}
 use Rattle.edi_diff.specs.inner.Progress.{Progress, open_codes, plan_of}
 
 -- a record with its key, if it has one
@@ -17,8 +17,8 @@ abbrev pub with_code : {K : Type 0} → Option K → ℕ → List (K × ℕ)
 with_code key code = map (λ found. (found, code)) (option_to_list key)
 
 -- the records that have a key, each with it
-abbrev pub keyed_by : {K : Type 0} → (ℕ → Option K) → List ℕ → List (K × ℕ)
-keyed_by key codes = flat_map (λ code. with_code (key code) code) codes
+abbrev pub with_keys : {K : Type 0} → (ℕ → Option K) → List ℕ → List (K × ℕ)
+with_keys key codes = flat_map (λ code. with_code (key code) code) codes
 
 -- those of them that have this key
 abbrev pub with_key : {K : Type 0} → (K → K → Ordering) → List (K × ℕ) → K → List (K × ℕ)
@@ -68,23 +68,23 @@ AreLoneNeighbours cmp pairs found = (w : Proposal) → Contains found w ↔ ((at
 abbrev pub AreByPoints : Progress → List Proposal → Type 0
 AreByPoints m found =
     AreLonePairs points_key_cmp
-    (keyed_by (λ code. points_key (plan_of m (is_of_second code)) (place_by code)) (open_codes m)) found
+    (with_keys (λ code. points_key (plan_of m (is_of_second code)) (place_by code)) (open_codes m)) found
 
 -- records by their contents
 abbrev pub AreByContents : Progress → List Proposal → Type 0
 AreByContents m found =
     AreLonePairs contents_key_cmp
-    (keyed_by (λ code. contents_key (plan_of m (is_of_second code)) (place_by code)) (open_codes m)) found
+    (with_keys (λ code. contents_key (plan_of m (is_of_second code)) (place_by code)) (open_codes m)) found
 
 -- records by what links join them with
 abbrev pub AreByJoints : Progress → List Proposal → Type 0
 AreByJoints m found =
     (joints : List (ℕ × (LinkClass × ℕ))) × AreJoints m joints
-    × AreLonePairs joined_key_cmp (keyed_by (joined_key m joints) (open_codes m)) found
+    × AreLonePairs joined_key_cmp (with_keys (joined_key m joints) (open_codes m)) found
 
 -- links by their ends
 abbrev pub AreByEnds : Progress → List Proposal → Type 0
-AreByEnds m found = AreLonePairs ends_key_cmp (keyed_by (ends_key m) (open_codes m)) found
+AreByEnds m found = AreLonePairs ends_key_cmp (with_keys (named_ends_key m) (open_codes m)) found
 
 -- what is proposed by one way
 abbrev pub AreProposals : Progress → Way → List Proposal → Type 0

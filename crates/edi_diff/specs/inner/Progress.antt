@@ -41,20 +41,20 @@ plan_of m of_second = if of_second then m.other else m.plan
 
 -- the name of a record, if it is known: the place in the second sheet where it went, or its own if it is of that sheet
 -- and was reached
-abbrev pub name_of : Progress → Bool → ℕ → Option ℕ
-name_of m of_second place =
+abbrev pub known_name : Progress → Bool → ℕ → Option ℕ
+known_name m of_second place =
     if of_second
     then (if slice_index_or m.reached place false then Some place else None) else slice_index_or m.to place None
 
 -- the first arc among the ends of a link
-abbrev pub arc_of : PlanData → List PlanEnd → Option ℕ
-arc_of p ends = find (λ place. is_arc (record_at p place).kind) (map (λ end. end.target) ends)
+abbrev pub arc_of_ends : PlanData → List PlanEnd → Option ℕ
+arc_of_ends p ends = find (λ place. is_arc (record_at p place).kind) (map (λ end. end.target) ends)
 
 -- whether the arc of a link is reversed in the second sheet, if its name is known: an arc of that sheet is not
 abbrev pub reversal_of : Progress → Bool → PlanData → ℕ → Option Bool
 reversal_of m of_second p place =
     option_and_then (λ arc. option_and_then (λ name. if of_second then Some false else slice_get m.turned arc)
-    (name_of m of_second arc)) (arc_of p (record_at p place).ends)
+    (known_name m of_second arc)) (arc_of_ends p (record_at p place).ends)
 
 -- of two kinds that a reversal exchanges the first
 abbrev pub first_of_pair : Role → Role
@@ -74,8 +74,8 @@ abbrev pub link_class : ℕ → Role → Option Bool → LinkClass
 link_class class role reversal = if is_plain role then OfClass class else OfKind (kind_there role reversal)
 
 -- the class of the link at a place
-abbrev pub class_at : Progress → Bool → ℕ → LinkClass
-class_at m of_second place =
+abbrev pub link_class_at : Progress → Bool → ℕ → LinkClass
+link_class_at m of_second place =
     link_class (record_at (plan_of m of_second) place).class (record_at (plan_of m of_second) place).role
     (reversal_of m of_second (plan_of m of_second) place)
 

@@ -14,19 +14,19 @@ EndsAre ends None stray = (ends ≡ []) × (stray ≡ None)
 EndsAre ends (Some home) None = (first ends ≡ Some home.items) × All (λ e. ¬ (AreApart e home.items)) ends
 EndsAre ends (Some home) (Some stray) = AreStrayEnds ends home.items stray.items
 
-abbrev pub AreEnds : List (List ℕ) → LinkEnds → Type 0
-AreEnds ends s = EndsAre ends s.home s.stray
+abbrev pub AreEndsWithStray : List (List ℕ) → LinkEnds → Type 0
+AreEndsWithStray ends s = EndsAre ends s.home s.stray
 
 -- the parts of a pointer, as a group of four zones
 abbrev pub sign_zone : List ℕ → ZoneData
 sign_zone value = record { line = 0; code = []; nature = 0; format = 0; value = value }
 
-abbrev pub sign_of : PointerText → List ZoneData
-sign_of p = sign_zone p.lot ∷ sign_zone p.subset ∷ sign_zone p.rty ∷ sign_zone p.rid ∷ []
+abbrev pub name_signature : PointerText → List ZoneData
+name_signature p = sign_zone p.lot ∷ sign_zone p.subset ∷ sign_zone p.rty ∷ sign_zone p.rid ∷ []
 
 -- A record is sought, and these groups have come. Handing on says of what takes groups no more than what holds after
 -- those that came; so the pointer stands in front of them, as a group of its own.
 abbrev pub IsSoughtName : SoughtName → List (List ZoneData) → Type 0
 IsSoughtName s [] = ⊥
-IsSoughtName s (sign ∷ come) = (sign ≡ sign_of (shown s.pointer)) × AreEnds (link_ends come) s.ends
+IsSoughtName s (sign ∷ come) = (sign ≡ name_signature (shown s.pointer)) × AreEndsWithStray (link_ends come) s.ends
     × (IsTrue s.is_there ↔ Any (IsNamedBy (shown s.pointer)) come)

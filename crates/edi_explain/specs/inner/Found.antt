@@ -18,12 +18,12 @@ group_numbered groups zero = None
 group_numbered groups (suc place) = slice_get groups place
 
 -- a place from 0 as a number from 1, or 0 for none
-abbrev pub number_of : Option ℕ → ℕ
-number_of (Some place) = suc place
-number_of None = 0
+abbrev pub number_from_one : Option ℕ → ℕ
+number_from_one (Some place) = suc place
+number_from_one None = 0
 
 -- the zones of the record with this number and of the one at an earlier place, of each that the file has
 pub record AreFound (zones : List ZoneData) (number : ℕ) (earlier : Option ℕ) (found : FoundRecords) : Type 0 where
   pub here : option_map (λ g. entries g.now) found.here ≡ group_numbered (groups_of zones) number
   pub earlier_one : option_map (λ g. entries g.now) found.earlier
-      ≡ group_numbered (groups_of zones) (number_of earlier)
+      ≡ group_numbered (groups_of zones) (number_from_one earlier)

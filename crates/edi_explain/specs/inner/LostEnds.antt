@@ -15,8 +15,8 @@ abbrev pub pointed_name : PointerText → Name
 pointed_name p = record { rty = p.rty; rid = p.rid }
 
 -- the names of these records, and no others
-abbrev pub AreNamesOf : List (List ZoneData) → List Name → Type 0
-AreNamesOf groups names = (p : PointerText) → Contains names (pointed_name p) ↔ Any (IsNamedBy p) groups
+abbrev pub AreNamesOfGroups : List (List ZoneData) → List Name → Type 0
+AreNamesOfGroups groups names = (p : PointerText) → Contains names (pointed_name p) ↔ Any (IsNamedBy p) groups
 
 -- the first end of a record that names no node, arc, face or object of these, and that it counts nothing
 abbrev pub IsLostEndOf : List (List ZoneData) → List ZoneData → ZoneData → Option ℕ → Type 0

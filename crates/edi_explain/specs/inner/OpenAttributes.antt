@@ -4,5 +4,5 @@ use Rattle.edi_line.specs.ZoneData.{ZoneData}
 use Rattle.edi_record.specs.Records.{IsOpen}
 
 -- these zones leave an attribute open, or leave none
-abbrev pub LeavesOpen : Bool → List ZoneData → Type 0
-LeavesOpen is_open front = (is_open ≡ true) ↔ ((since : List ZoneData) × IsOpen front since)
+abbrev pub LeaveOpen : Bool → List ZoneData → Type 0
+LeaveOpen is_open front = (is_open ≡ true) ↔ ((since : List ZoneData) × IsOpen front since)

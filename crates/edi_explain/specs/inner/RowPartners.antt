@@ -9,8 +9,8 @@ use Rattle.edi_explain.specs.declared.rows.RowTest.{RowTest}
 use Rattle.edi_explain.specs.declared.rows.RowTest.TheVariants.{Named, Linked}
 
 -- the name that two texts are
-abbrev pub name_in : RowName → Name
-name_in found = record { rty = found.rty.now; rid = found.rid.now }
+abbrev pub row_name : RowName → Name
+row_name found = record { rty = found.rty.now; rid = found.rid.now }
 
 -- the zones of a link with an end
 abbrev pub IsLinked : List ZoneData → Type 0
@@ -19,7 +19,7 @@ IsLinked group = (text : List ℕ) × (first (values (codes "RTY") group) ≡ So
 
 -- the zones of a record are as is looked for: it has the name, or is a link with an end
 abbrev pub PassesRow : RowTest → List ZoneData → Type 0
-PassesRow (Named name) group = IsNamed group (name_in name)
+PassesRow (Named name) group = IsNamed group (row_name name)
 PassesRow Linked group = IsLinked group
 
 -- a record before the one at this place, of whose zones this holds; places are from 0

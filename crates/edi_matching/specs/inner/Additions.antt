@@ -98,7 +98,7 @@ pub record IsKept (to : List (Option ℕ)) (taken : List Bool) (more : List (Opt
   pub marked : marks ≡ taken
 
 -- the two were free, and the one goes to the other now
-pub record IsPaired (i j : ℕ) (to : List (Option ℕ)) (taken : List Bool) (more : List (Option ℕ))
+pub record IsAddedPair (i j : ℕ) (to : List (Option ℕ)) (taken : List Bool) (more : List (Option ℕ))
     (marks : List Bool) : Type 0 where
   pub free : AreFree to taken i j
   pub goes : more ≡ slice_set to i (Some j)
@@ -107,12 +107,12 @@ pub record IsPaired (i j : ℕ) (to : List (Option ℕ)) (taken : List Bool) (mo
 -- the two are paired, if they were free
 abbrev pub PairsIfFree : ℕ → ℕ → List (Option ℕ) → List Bool → List (Option ℕ) → List Bool → Type 0
 PairsIfFree i j to taken more marks =
-    IsPaired i j to taken more marks ⊎ (¬ (AreFree to taken i j) × IsKept to taken more marks)
+    IsAddedPair i j to taken more marks ⊎ (¬ (AreFree to taken i j) × IsKept to taken more marks)
 
 -- the two are paired, if they were free and hold the same
 abbrev pub PairsIfAlike : PlanData → PlanData → ℕ → ℕ → List (Option ℕ) → List Bool → List (Option ℕ) → List Bool → Type 0
 PairsIfAlike p q i j to taken more marks =
-    (AreAlike p q i j × IsPaired i j to taken more marks)
+    (AreAlike p q i j × IsAddedPair i j to taken more marks)
     ⊎ (¬ (AreAlike p q i j × AreFree to taken i j) × IsKept to taken more marks)
 
 -- the same, if there are both

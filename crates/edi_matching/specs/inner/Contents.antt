@@ -8,7 +8,7 @@ use Rattle.edi_plan.specs.declared.record.PlanRecord.{PlanRecord}
 use Rattle.edi_matching.specs.declared.contents.Contents.{Contents}
 use Rattle.edi_matching.specs.declared.entries.ContentKey.{ContentKey}
 use Rattle.edi_matching.specs.inner.Additions.{AreInOrder, HasKey, IsFirstFrom}
-use Rattle.edi_matching.specs.inner.Entries.{content_beside, contents_of}
+use Rattle.edi_matching.specs.inner.Entries.{content_beside, content_key_of}
 
 -- one more than the first position whose key isn't less, if that has the key, and else 0
 pub record IsNumberIn {K X : Type 0} (cmp : K → K → Ordering) (eq : K → K → Bool) (order : List (K × X)) (key : K)
@@ -26,10 +26,10 @@ module _ (cmp : ContentKey → ContentKey → Ordering) (eq : ContentKey → Con
   -- the number of what a record of this type holds, or 0 for another record
   abbrev pub IsContentNumber : Kind → List (ContentKey × ℕ) → PlanRecord → ℕ → Type 0
   IsContentNumber kind order r number =
-      ((r.kind ≡ kind) × IsNumberIn cmp eq order (contents_of r) number) ⊎ ((r.kind ≢ kind) × (number ≡ 0))
+      ((r.kind ≡ kind) × IsNumberIn cmp eq order (content_key_of r) number) ⊎ ((r.kind ≢ kind) × (number ≡ 0))
 
   -- a number for each record of a plan
-  pub record AreNumbersOf (kind : Kind) (order : List (ContentKey × ℕ)) (p : PlanData) (numbers : List ℕ) : Type 0 where
+  pub record AreContentNumbers (kind : Kind) (order : List (ContentKey × ℕ)) (p : PlanData) (numbers : List ℕ) : Type 0 where
     pub all : length numbers ≡ length p.list
     pub each : (k : ℕ) → IsPlace p k → IsContentNumber kind order (record_at p k) (slice_index_or numbers k 0)
 
@@ -38,5 +38,5 @@ module _ (cmp : ContentKey → ContentKey → Ordering) (eq : ContentKey → Con
     pub order : List (ContentKey × ℕ)
     pub ordered : AreInOrder cmp order
     pub listed : IsPermutation (filter_map (held_at p) (places_of kind p)) order
-    pub here : AreNumbersOf kind order p contents.here.items
-    pub there : AreNumbersOf kind order q contents.there.items
+    pub here : AreContentNumbers kind order p contents.here.items
+    pub there : AreContentNumbers kind order q contents.there.items

@@ -59,12 +59,12 @@ abbrev pub keyed_places : {K : Type 0} → (ℕ → Option K) → List ℕ → L
 keyed_places key places = filter_map (λ k. option_map (λ x. (x, k)) (key k)) places
 
 -- what a record holds beside its points and its ends
-abbrev pub contents_of : PlanRecord → ContentKey
-contents_of r = record { class = r.class; attributes = sort_by attribute_cmp r.attributes; extras = r.extras }
+abbrev pub content_key_of : PlanRecord → ContentKey
+content_key_of r = record { class = r.class; attributes = sort_by attribute_cmp r.attributes; extras = r.extras }
 
 -- what the record at a place holds, with a value beside it, if it is one of the plan
 abbrev pub content_beside : {T : Type 0} → PlanData → ℕ → T → Option (ContentKey × T)
-content_beside p k x = if nat_lt k (length p.list) then Some (contents_of (record_at p k), x) else None
+content_beside p k x = if nat_lt k (length p.list) then Some (content_key_of (record_at p k), x) else None
 
 abbrev pub content_at : PlanData → Member → Option (ContentKey × Member)
 content_at p m = content_beside p m.place m
@@ -84,10 +84,10 @@ neighbour_entry p there to class contents member e =
 
 -- The entries of an object of a link, if there is one that isn't done: one for each end of the link that goes
 -- somewhere. The contents have the number of what each object holds.
-abbrev pub entries_of : PlanData → Labelling → Labelling → List ℕ → List (Option ℕ) → List Bool → PlanRecord → Option ℕ
+abbrev pub entries_of_object : PlanData → Labelling → Labelling → List ℕ → List (Option ℕ) → List Bool → PlanRecord → Option ℕ
     → List (NeighbourKey × Member)
-entries_of p here there contents to done r None = []
-entries_of p here there contents to done r (Some object) =
+entries_of_object p here there contents to done r None = []
+entries_of_object p here there contents to done r (Some object) =
     if slice_index_or done object false then []
     else filter_map
     (neighbour_entry p there to r.class (slice_index_or contents object 0) (member_at here object)) r.ends
@@ -95,7 +95,7 @@ entries_of p here there contents to done r (Some object) =
 abbrev pub link_entries : PlanData → Labelling → Labelling → List ℕ → List (Option ℕ) → List Bool → ℕ
     → List (NeighbourKey × Member)
 link_entries p here there contents to done k =
-    entries_of p here there contents to done (record_at p k) (object_among p (record_at p k).ends)
+    entries_of_object p here there contents to done (record_at p k) (object_among p (record_at p k).ends)
 
 -- those of all links of a plan
 abbrev pub neighbour_entries : PlanData → Labelling → Labelling → List ℕ → List (Option ℕ) → List Bool

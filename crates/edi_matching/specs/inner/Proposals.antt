@@ -20,7 +20,7 @@ pub record Proposal : Type 0 where
   pub turned : List Bool
 
 -- each record has an entry, and where it goes is a place of the other plan
-pub record IsFitting (m : Proposal) : Type 0 where
+pub record IsWithinPlans (m : Proposal) : Type 0 where
   pub classed : HasClasses m.classes m.plan
   pub all_entered : length m.to ≡ length m.plan.list
   pub all_directed : length m.turned ≡ length m.plan.list
@@ -28,12 +28,12 @@ pub record IsFitting (m : Proposal) : Type 0 where
   pub within : (i j : ℕ) → GoesTo m.to i j → IsPlace m.other j
 
 -- the record at the place i is carried onto that at the place j of the other plan
-abbrev pub IsCarried : Proposal → ℕ → ℕ → Type 0
-IsCarried m i j =
+abbrev pub IsCarriedOnto : Proposal → ℕ → ℕ → Type 0
+IsCarriedOnto m i j =
     CarriesRecord m.classes (slice_index m.targets) (turned_at m.turned) i (record_at m.plan i) (record_at m.other j)
 
 -- what is asked of the record at the place i
 pub record HoldsAt (m : Proposal) (i : ℕ) : Type 0 where
   pub arc : turned_at m.turned i ≡ true → IsMatched m.to i × ((record_at m.plan i).kind ≡ Par)
   pub ends : (j : ℕ) → GoesTo m.to i j → AllByRecursion (λ e. IsMatched m.to e.target) (record_at m.plan i).ends
-  pub carries : (j : ℕ) → GoesTo m.to i j → IsCarried m i j
+  pub carries : (j : ℕ) → GoesTo m.to i j → IsCarriedOnto m i j

@@ -26,8 +26,8 @@ forward_sides true = Right ∷ Left ∷ []
 forward_sides false = Left ∷ Right ∷ []
 
 -- which kind a link is of after the reversals
-abbrev pub role_after : Labelling → PlanRecord → Role
-role_after l r = if has_turned_arc (turned_at l.turned) r then exchanged r.role else r.role
+abbrev pub role_after_reversals : Labelling → PlanRecord → Role
+role_after_reversals l r = if has_turned_arc (turned_at l.turned) r then exchanged r.role else r.role
 
 -- 0 for none of the four kinds, and a number for each of them
 abbrev pub role_number : Role → ℕ
@@ -61,7 +61,7 @@ ends_input p l (origin ∷ others) = fed.u64 (end_checksum p l origin) ++ fed.u6
 abbrev pub record_input : PlanData → Labelling → ℕ → HashWrites
 record_input p l place =
     fed.u64 (record_checksum (record_at p place))
-    ++ (fed.u8 (role_number (role_after l (record_at p place))) ++ ends_input p l (record_at p place).ends)
+    ++ (fed.u8 (role_number (role_after_reversals l (record_at p place))) ++ ends_input p l (record_at p place).ends)
 
 -- the same, if there is a record
 abbrev pub input_if_any : PlanData → Labelling → ℕ → HashWrites

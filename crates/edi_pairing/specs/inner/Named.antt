@@ -26,10 +26,10 @@ CanBeNamed a b pairing (Record i (Unlike part)) = HasPair a b pairing i
 CanBeNamed a b pairing (Unmet j) = j < length b
 
 -- this is the reason with their names
-abbrev pub IsNamed : List RecordName → List RecordName → Pairing → Uncarried → Unpaired → Type 0
-IsNamed a b pairing Entries why = ⊥
-IsNamed a b pairing CharacterSets why = why ≡ unpaired.CharacterSets
-IsNamed a b pairing (Record i Nowhere) why = ⊥
-IsNamed a b pairing (Record i (Shared k)) why = why ≡ unpaired.Shared (pair_at a b pairing i) (pair_at a b pairing k)
-IsNamed a b pairing (Record i (Unlike part)) why = why ≡ unpaired.Unlike (pair_at a b pairing i) part
-IsNamed a b pairing (Unmet j) why = why ≡ unpaired.Unmet (name_at b j)
+abbrev pub HasNamesOf : List RecordName → List RecordName → Pairing → Uncarried → Unpaired → Type 0
+HasNamesOf a b pairing Entries why = ⊥
+HasNamesOf a b pairing CharacterSets why = why ≡ unpaired.CharacterSets
+HasNamesOf a b pairing (Record i Nowhere) why = ⊥
+HasNamesOf a b pairing (Record i (Shared k)) why = why ≡ unpaired.Shared (pair_at a b pairing i) (pair_at a b pairing k)
+HasNamesOf a b pairing (Record i (Unlike part)) why = why ≡ unpaired.Unlike (pair_at a b pairing i) part
+HasNamesOf a b pairing (Unmet j) why = why ≡ unpaired.Unmet (name_at b j)

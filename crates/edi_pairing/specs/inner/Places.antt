@@ -5,8 +5,8 @@ use Rattle.edi_pairing.specs.declared.names.RecordName.{RecordName}
 use Rattle.edi_pairing.specs.declared.places.BorrowedName.{BorrowedName}
 
 -- a name without where it lies in memory
-abbrev pub name_of : BorrowedName → RecordName
-name_of n = record { kind = n.kind; rid = n.rid.now }
+abbrev pub owned_name : BorrowedName → RecordName
+owned_name n = record { kind = n.kind; rid = n.rid.now }
 
 -- the place of a name, or there is none
 abbrev pub IsPlaceIfAny : List RecordName → RecordName → Option ℕ → Type 0

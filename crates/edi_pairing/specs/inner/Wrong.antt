@@ -7,17 +7,17 @@ use Rattle.edi_pairing.specs.declared.fault.WrongLine.TheVariants.{Missing, Unen
 use Rattle.edi_pairing.specs.declared.names.RecordName.{RecordName}
 
 -- the text begins with a line, and no carriage return stands before its line feed
-pub record IsWhole (text : List ℕ) : Type 0 where
+pub record BeginsWithLine (text : List ℕ) : Type 0 where
   pub some : text ≢ []
   pub ended : list_any is_line_feed text ≡ true
   pub plain : ¬ (EndsInReturn text)
 
 -- the text is empty, has no line feed, or has a carriage return before the first
-abbrev pub IsUnread : List ℕ → WrongLine → Type 0
-IsUnread text Missing = text ≡ []
-IsUnread text Unended = (text ≢ []) × (list_any is_line_feed text ≡ false)
-IsUnread text CarriageReturn = EndsInReturn text
-IsUnread text _ = ⊥
+abbrev pub IsUnreadLine : List ℕ → WrongLine → Type 0
+IsUnreadLine text Missing = text ≡ []
+IsUnreadLine text Unended = (text ≢ []) × (list_any is_line_feed text ≡ false)
+IsUnreadLine text CarriageReturn = EndsInReturn text
+IsUnreadLine text _ = ⊥
 
 -- why a line in form, of this name and with this second identifier, doesn't pair the next name
 abbrev pub IsNoPair : List RecordName → List RecordName → RecordName → RecordName → List ℕ → WrongLine → Type 0

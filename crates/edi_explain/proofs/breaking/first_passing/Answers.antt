@@ -4,7 +4,7 @@ use Rattle.std.proofs.lemmas.Option.{slice_get_within}
 use Rattle.edi_line.specs.ZoneData.{entries, entry}
 use Rattle.edi_record.proofs.StatesSaid.{open_more, open_none}
 use Rattle.edi_explain.specs.BreakingZones.{PassesAt}
-use Rattle.edi_explain.specs.inner.OpenAttributes.{LeavesOpen}
+use Rattle.edi_explain.specs.inner.OpenAttributes.{LeaveOpen}
 use Rattle.edi_explain.proofs.ExtraZonesOf.{entries_more}
 use Rattle.edi_plan.proofs.Leasts.{least_here, none_here}
 use Rattle.edi_explain.proofs.Passing.{zone_there}
@@ -28,8 +28,8 @@ loop-place-preserved c =
     let place = c.loop-place.place in
     let z = c.index-group-place-in-loop-place.result in
     let front = entries (take place zones) in (
-      subst (LeavesOpen c.is_open_behind-is_open.result) (sym (entries_more zones place z c.loop-place-test.true c.index-group-place-in-loop-place.is))
-          (subst (λ b. LeavesOpen b (front ++ entry z ∷ [])) (sym c.is_open_behind-is_open.ensures) (open_more c.loop-place.is_open front (entry z) c.loop-place.invariant.0)),
+      subst (LeaveOpen c.is_open_behind-is_open.result) (sym (entries_more zones place z c.loop-place-test.true c.index-group-place-in-loop-place.is))
+          (subst (λ b. LeaveOpen b (front ++ entry z ∷ [])) (sym c.is_open_behind-is_open.ensures) (open_more c.loop-place.is_open front (entry z) c.loop-place.invariant.0)),
       none_here (PassesAt c.args.test (entries zones)) place c.loop-place.invariant.1 (λ h. let t = c.passes_at.ensures.1 h in let f = c.if-passes_at.false in cc),
     )
 

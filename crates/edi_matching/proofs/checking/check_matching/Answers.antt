@@ -1,5 +1,5 @@
 use Rattle.std.proofs.Common.{subst, ◌∙◌, arith}
-use Rattle.edi_matching.specs.inner.Marks.{AreApart}
+use Rattle.edi_matching.specs.inner.Marks.{GoApart}
 use Rattle.edi_matching.proofs.Checked.{all_reported}
 use Rattle.edi_matching.proofs.checking.check_matching.Goals as goal
 
@@ -12,4 +12,4 @@ returns c =
     all_reported c.args.schema.now c.args.first.now c.args.second.now plan other c.args.matching.now to turned c.deref.result.now
     (c.plan-plan.ensures.plan ∙ c.sound.ensures) (c.plan-other.ensures.plan ∙ c.sound-2.ensures) c.as_slice-to.ensures c.as_slice-turned.ensures
     (c.deref.ensures.value ∙ c.in_ok-targets.ensures) (omega (arith, c.if-to-len.false, c.len.ensures)) (omega (arith, c.if-turned-len.false, c.len-else-to-len.ensures))
-    (subst (AreApart to) c.len-2.ensures (c.in_ok-are_apart.ensures.0 c.if-not-branch.false)) c.all_hold.result c.all_hold.ensures
+    (subst (GoApart to) c.len-2.ensures (c.in_ok-are_apart.ensures.0 c.if-not-branch.false)) c.all_hold.result c.all_hold.ensures

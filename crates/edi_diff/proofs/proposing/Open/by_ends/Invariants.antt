@@ -1,10 +1,10 @@
 use Rattle.std.proofs.Common.{◌≡◌, take}
-use Rattle.edi_diff.specs.inner.Keys.{ends_key}
-use Rattle.edi_diff.specs.inner.LonePairs.{keyed_by}
+use Rattle.edi_diff.specs.inner.Keys.{named_ends_key}
+use Rattle.edi_diff.specs.inner.LonePairs.{with_keys}
 use Rattle.edi_diff.specs.inner.Progress.{progress_of}
 use Rattle.edi_diff.proofs.proposing.Open.by_ends.Given as goal
 
 abbrev pub invariant-loop-code : goal.invariant-loop-code
 invariant-loop-code l =
-    let key = ends_key (progress_of l.self) in
-    l.pairs.items ≡ keyed_by key (take l.code-index l.code-items)
+    let key = named_ends_key (progress_of l.self) in
+    l.pairs.items ≡ with_keys key (take l.code-index l.code-items)
