@@ -32,7 +32,7 @@ impl<'a> SheetNamer<'a> {
     pub(crate) fn plan(&self) -> &'a Plan
         ensures { result.now ≡ self.now.sheet.now.accepted }
     {
-        self.sheet.accepted.sound().plan()
+        self.sheet.plan()
     }
 
     /// The line in which a record begins.
@@ -41,7 +41,7 @@ impl<'a> SheetNamer<'a> {
         requires place { IsPlace self.now.sheet.now.accepted place }
         ensures { result ≡ (site_at self.now.sheet.now place).line }
     {
-        self.sheet.sites.as_slice()[place as usize].line
+        self.sheet.site(place).line
     }
 
     /// Appends what the text calls a record.

@@ -5,10 +5,10 @@ ghost use Rattle.edi_plan.specs.Plans.{IsPlace};
 ghost use Rattle.edi_objects.specs.Differing.{arrives, became_of, is_differing, moved_to, same_of};
 ghost use Rattle.edi_objects.specs.inner.Marks.{is_moved_onto};
 ghost use Rattle.edi_objects.specs.inner.Sheets.{AreTested};
-ghost use Rattle.edi_report.specs.Lines.{some_differ, went_to};
+ghost use Rattle.edi_report.specs.Lines.{went_to};
 ghost use Rattle.edi_report.specs.Reports.{parts_at};
 
-use edi_report::{LocatedSheet, NO_PARTS, Parts, Reporter};
+use edi_report::{LocatedSheet, Parts, Reporter};
 use std::alloc::{AllocError, Global};
 
 /// Of each record of the first sheet, whether it differs.
@@ -27,7 +27,7 @@ pub(crate) fn differing(alloc: Global, report: &Reporter<'_>) -> Result<Vec<bool
 pub(crate) fn record_count(sheet: &LocatedSheet) -> u32
     ensures { result ≡ length sheet.now.accepted.list }
 {
-    sheet.accepted.sound().plan().len()
+    sheet.plan().len()
 }
 
 /// Whether a record of the first sheet differs.
@@ -38,7 +38,7 @@ fn is_differing(report: &Reporter<'_>, place: u32) -> bool
     match (same_of(report, place), became_of(report, place)) {
         (Some(_), _) => false,
         (None, None) => true,
-        (None, Some(_)) => some_differ(&parts_at(report, place)),
+        (None, Some(_)) => parts_at(report, place).some_differ(),
     }
 }
 
@@ -61,7 +61,7 @@ pub(crate) fn became_of(report: &Reporter<'_>, place: u32) -> Option<u32>
 pub(crate) fn parts_at(report: &Reporter<'_>, place: u32) -> Parts
     ensures { result ≡ parts_at report.now.parts place }
 {
-    parts_of(report.parts, place as usize)
+    edi_report::parts_at(report.parts, place as usize)
 }
 
 /// Where a record goes, if anywhere.
@@ -72,23 +72,6 @@ fn target_at(to: &[Option<u32>], place: usize) -> Option<u32>
         Some(target) => *target,
         None => None,
     }
-}
-
-/// The parts in which a record differs.
-fn parts_of(parts: &[Parts], place: usize) -> Parts
-    ensures { result ≡ parts_at parts.now place }
-{
-    match parts.get(place) {
-        Some(parts) => *parts,
-        None => NO_PARTS,
-    }
-}
-
-/// Whether some part differs.
-fn some_differ(parts: &Parts) -> bool
-    ensures { result ≡ some_differ parts.now }
-{
-    parts.class || parts.attributes || parts.extras || parts.points || parts.ends
 }
 
 /// Of each record of the second sheet, whether it is new, or one became it that had other ends.
@@ -124,7 +107,9 @@ fn mark_moved(report: &Reporter<'_>, marks: &mut [bool])
 fn moved_to(report: &Reporter<'_>, place: usize) -> Option<u32>
     ensures { result ≡ moved_to report.now place }
 {
-    if target_at(report.unchanged, place).is_some() || !parts_of(report.parts, place).ends {
+    if target_at(report.unchanged, place).is_some()
+        || !edi_report::parts_at(report.parts, place).ends
+    {
         return None;
     }
     target_at(report.became, place)
