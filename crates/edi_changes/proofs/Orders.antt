@@ -9,7 +9,7 @@ use Rattle.edi_record.specs.Orders.{bytes_cmp}
 use Rattle.edi_schema.specs.Sorted.{NeverFalls}
 use Rattle.edi_manifest.proofs.ByteOrder.{bytes_total, bytes_exact}
 use Rattle.edi_changes.specs.declared.entry.Entry.{Entry}
-use Rattle.edi_changes.specs.inner.Merging.{AllFrom, IsLeast, IsLedBy, entry_cmp, run_length}
+use Rattle.edi_changes.specs.inner.Merging.{AllFrom, IsLeastSubject, IsLedBy, entry_cmp, run_length}
 
 -- ---- parts of lists
 
@@ -106,30 +106,30 @@ from_less : (s t : List ℕ) → is_gt (bytes_cmp s t) ≡ false → (es : List 
 from_less s t h es from =
     all_map (λ (y : Entry). is_gt (bytes_cmp t y.subject) ≡ false) (λ (y : Entry). is_gt (bytes_cmp s y.subject) ≡ false) (λ y k. upto bytes_total s t y.subject h k) es from
 
-pub least_behind : (entries : List Entry) (e : Entry) (es : List Entry) → entries ≡ e ∷ es → NeverFalls entry_cmp entries → IsLeast e.subject [] entries
+pub least_behind : (entries : List Entry) (e : Entry) (es : List Entry) → entries ≡ e ∷ es → NeverFalls entry_cmp entries → IsLeastSubject e.subject [] entries
 least_behind entries e es cut up =
-    subst (λ (l : List Entry). NeverFalls entry_cmp l → IsLeast e.subject [] l) (sym cut) (λ k. (tt, from_first e es k, inr refl)) up
+    subst (λ (l : List Entry). NeverFalls entry_cmp l → IsLeastSubject e.subject [] l) (sym cut) (λ k. (tt, from_first e es k, inr refl)) up
 
-pub least_before : (entries none : List Entry) (e : Entry) (es : List Entry) → none ≡ [] → entries ≡ e ∷ es → NeverFalls entry_cmp entries → IsLeast e.subject entries none
+pub least_before : (entries none : List Entry) (e : Entry) (es : List Entry) → none ≡ [] → entries ≡ e ∷ es → NeverFalls entry_cmp entries → IsLeastSubject e.subject entries none
 least_before entries none e es empty cut up =
-    subst (λ (n : List Entry). IsLeast e.subject entries n) (sym empty)
-    (subst (λ (l : List Entry). NeverFalls entry_cmp l → IsLeast e.subject l []) (sym cut) (λ k. (from_first e es k, tt, inl refl)) up)
+    subst (λ (n : List Entry). IsLeastSubject e.subject entries n) (sym empty)
+    (subst (λ (l : List Entry). NeverFalls entry_cmp l → IsLeastSubject e.subject l []) (sym cut) (λ k. (from_first e es k, tt, inl refl)) up)
 
 pub least_of_two : (before after : List Entry) (a : Entry) (as_ : List Entry) (b : Entry) (bs : List Entry) (s : List ℕ) → before ≡ a ∷ as_ → after ≡ b ∷ bs
     → NeverFalls entry_cmp before → NeverFalls entry_cmp after
     → ((s ≡ a.subject) × (is_gt (bytes_cmp a.subject b.subject) ≡ false)) ⊎ ((s ≡ b.subject) × (bytes_cmp b.subject a.subject ≡ Less))
-    → IsLeast s before after
+    → IsLeastSubject s before after
 least_of_two before after a as_ b bs s cut cut' up up' which =
-    subst (λ (l : List Entry). NeverFalls entry_cmp l → IsLeast s l after) (sym cut) (λ k.
-    subst (λ (l : List Entry). NeverFalls entry_cmp l → IsLeast s (a ∷ as_) l) (sym cut') (λ k'. go k k' which) up') up
+    subst (λ (l : List Entry). NeverFalls entry_cmp l → IsLeastSubject s l after) (sym cut) (λ k.
+    subst (λ (l : List Entry). NeverFalls entry_cmp l → IsLeastSubject s (a ∷ as_) l) (sym cut') (λ k'. go k k' which) up') up
   where
     go : NeverFalls entry_cmp (a ∷ as_) → NeverFalls entry_cmp (b ∷ bs)
         → ((s ≡ a.subject) × (is_gt (bytes_cmp a.subject b.subject) ≡ false)) ⊎ ((s ≡ b.subject) × (bytes_cmp b.subject a.subject ≡ Less))
-        → IsLeast s (a ∷ as_) (b ∷ bs)
+        → IsLeastSubject s (a ∷ as_) (b ∷ bs)
     go k k' (inl h) =
-        subst (λ (t : List ℕ). IsLeast t (a ∷ as_) (b ∷ bs)) (sym h.0) (from_first a as_ k, from_less a.subject b.subject h.1 (b ∷ bs) (from_first b bs k'), inl refl)
+        subst (λ (t : List ℕ). IsLeastSubject t (a ∷ as_) (b ∷ bs)) (sym h.0) (from_first a as_ k, from_less a.subject b.subject h.1 (b ∷ bs) (from_first b bs k'), inl refl)
     go k k' (inr h) =
-        subst (λ (t : List ℕ). IsLeast t (a ∷ as_) (b ∷ bs)) (sym h.0) (from_less b.subject a.subject (ap is_gt h.1) (a ∷ as_) (from_first a as_ k), from_first b bs k', inr refl)
+        subst (λ (t : List ℕ). IsLeastSubject t (a ∷ as_) (b ∷ bs)) (sym h.0) (from_less b.subject a.subject (ap is_gt h.1) (a ∷ as_) (from_first a as_ k), from_first b bs k', inr refl)
 
 -- ---- the entries of the least subject
 
@@ -174,7 +174,7 @@ longer : (run : List Entry) → run ≢ [] → 0 < length run
 longer [] some = absurd (some refl)
 longer (e ∷ es) some = omega arith
 
-module _ (s : List ℕ) (old new old_run old_behind new_run new_behind : List Entry) (least : IsLeast s old new) (old_cut : old ≡ old_run ++ old_behind) (new_cut : new ≡ new_run ++ new_behind)
+module _ (s : List ℕ) (old new old_run old_behind new_run new_behind : List Entry) (least : IsLeastSubject s old new) (old_cut : old ≡ old_run ++ old_behind) (new_cut : new ≡ new_run ++ new_behind)
     (old_less : AllByRecursion (λ (e : Entry). bytes_cmp s e.subject ≡ Less) old_behind) (new_less : AllByRecursion (λ (e : Entry). bytes_cmp s e.subject ≡ Less) new_behind) where
   -- a run of one of two lists has an entry
   pub some_run : (old_run ≢ []) ⊎ (new_run ≢ [])

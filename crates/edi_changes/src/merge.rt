@@ -8,7 +8,7 @@ ghost use Rattle.std.specs.declared.cmp.Ordering.TheVariants.{Less};
 ghost use Rattle.edi_record.specs.Orders.{bytes_cmp};
 ghost use Rattle.edi_schema.specs.Sorted.{NeverFalls};
 ghost use Rattle.edi_changes.specs.Changes.{AreListChanges, IsFate};
-ghost use Rattle.edi_changes.specs.inner.Merging.{AllFrom, IsLeast, digest_in, entry_cmp, run_length};
+ghost use Rattle.edi_changes.specs.inner.Merging.{AllFrom, IsLeastSubject, digest_in, entry_cmp, run_length};
 
 use crate::changes::{Change, Fate};
 use crate::entry::Entry;
@@ -46,7 +46,7 @@ pub(crate) fn merged(
 fn least_subject<'a>(before: &'a [Entry], after: &'a [Entry]) -> Option<&'a Text>
     requires before { NeverFalls entry_cmp before.now }
     requires after { NeverFalls entry_cmp after.now }
-    ensures { MatchOption result ((before.now ≡ []) × (after.now ≡ [])) (λ s. IsLeast s.now before.now after.now) }
+    ensures { MatchOption result ((before.now ≡ []) × (after.now ≡ [])) (λ s. IsLeastSubject s.now before.now after.now) }
 {
     let Some((old, _)) = cut_first(before) else {
         return first_subject(after);
@@ -60,7 +60,7 @@ fn least_subject<'a>(before: &'a [Entry], after: &'a [Entry]) -> Option<&'a Text
 // The subject of the first entry, if there is one.
 fn first_subject(entries: &[Entry]) -> Option<&Text>
     requires { NeverFalls entry_cmp entries.now }
-    ensures { MatchOption result (entries.now ≡ []) (λ s. IsLeast s.now [] entries.now) }
+    ensures { MatchOption result (entries.now ≡ []) (λ s. IsLeastSubject s.now [] entries.now) }
 {
     let Some((first, _)) = cut_first(entries) else {
         return None;

@@ -5,7 +5,7 @@ ghost use Rattle.std.specs.List.{AllByRecursion};
 ghost use Rattle.edi_shown.specs.Shown.{backslash};
 ghost use Rattle.edi_answers.specs.Hashes.{escaped_byte, escaped_name};
 ghost use Rattle.edi_changes.specs.ListText.{IsListLine, IsNoList, list_text, schema_word};
-ghost use Rattle.edi_changes.specs.inner.Reading.{FindsDigits, FindsFirst, FindsLine, FindsLines, FindsWord, mark};
+ghost use Rattle.edi_changes.specs.inner.Reading.{FindsDigits, FindsShown, FindsListLine, FindsListLines, FindsSchemaWord, mark};
 
 use crate::list::{ListLine, list};
 use edi_line::Text;
@@ -33,7 +33,7 @@ pub fn read_list(alloc: Global, text: &[u8]) -> Result<Option<Vec<ListLine>>, Al
 
 // The lines of these bytes, or none where one of them isn't in form.
 fn lines_in(alloc: Global, text: &[u8]) -> Result<Option<Vec<ListLine>>, AllocError>
-    ensures finds { IfOk result (λ found. FindsLines text.now (option_map (λ lines. lines.items) found)) }
+    ensures finds { IfOk result (λ found. FindsListLines text.now (option_map (λ lines. lines.items) found)) }
     ensures are { IfOk result (λ found. IfSome found (λ lines. AllByRecursion IsListLine lines.items)) }
 {
     let mut found = Vec::new(alloc);
@@ -50,7 +50,7 @@ fn lines_in(alloc: Global, text: &[u8]) -> Result<Option<Vec<ListLine>>, AllocEr
 
 // The line with this content, which has no line feed.
 fn line_in(alloc: Global, content: &[u8]) -> Result<Option<ListLine>, AllocError>
-    ensures finds { IfOk result (FindsLine content.now) }
+    ensures finds { IfOk result (FindsListLine content.now) }
     ensures is { IfOk result (λ found. IfSome found IsListLine) }
 {
     let (is_schema, marked) = word_in(content);
@@ -70,7 +70,7 @@ fn line_in(alloc: Global, content: &[u8]) -> Result<Option<ListLine>, AllocError
 
 // Whether the word of a schema is in front, and what stands behind it.
 fn word_in(text: &[u8]) -> (bool, &[u8])
-    ensures { FindsWord text.now result }
+    ensures { FindsSchemaWord text.now result }
 {
     match text.strip_prefix(b"schema ") {
         Some(behind) => (true, behind),
@@ -103,7 +103,7 @@ fn digits_in(text: &[u8]) -> Option<(&[u8], &[u8])>
 
 // The byte that is in front, perhaps by an escape, and what stands behind it.
 fn first_in(text: &[u8]) -> Option<(u8, &[u8])>
-    ensures finds { FindsFirst text.now result }
+    ensures finds { FindsShown text.now result }
     ensures shorter { IfSome result (λ p. length p.1.now < length text.now) }
 {
     if let Some(behind) = text.strip_prefix(b"\\n") {

@@ -9,7 +9,7 @@ ghost use Rattle.edi_answers.specs.Notes.{Notes};
 ghost use Rattle.edi_answers.specs.Statuses.{LacksMemory};
 ghost use Rattle.edi_delivery.specs.Lots.{files_of};
 ghost use Rattle.edi_deliveries.specs.Deliveries.{found_name, found_names, is_unnamed, missing_line, missing_lines, refusal_words, unnamed_line, unnamed_lines};
-ghost use Rattle.edi_deliveries.specs.inner.Paths.{HasNames};
+ghost use Rattle.edi_deliveries.specs.inner.Paths.{HasJustNames};
 
 use crate::found::{FolderNames, has_extension};
 use edi_answers::hashes::{escaped, push_named};
@@ -126,7 +126,7 @@ fn found_table<'a>(
     names: &FolderNames<'a>,
     lots: &[Lot],
 ) -> Result<IndexSet<&'a str, NameHash>, AllocError>
-    ensures { IfOk result (HasNames (found_names (names.now) lots.now)) }
+    ensures { IfOk result (HasJustNames (found_names (names.now) lots.now)) }
 {
     let found = found_names(alloc, names, lots)?;
     let mut table = IndexSet::with_hasher(alloc, names.hash());

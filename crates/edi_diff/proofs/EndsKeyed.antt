@@ -4,7 +4,8 @@ use Rattle.edi_plan.specs.Plans.{PlanData, IsPlace, record_at}
 use Rattle.edi_plan.specs.declared.record.PlanEnd.{PlanEnd}
 use Rattle.edi_diff.specs.declared.proposing.LinkClass.{LinkClass}
 use Rattle.edi_diff.specs.inner.Codes.{is_of_second, place_by}
-use Rattle.edi_diff.specs.inner.Keys.{all_known, named_ends_key, is_link, is_there}
+use Rattle.edi_diff.specs.inner.Keys.{all_known, named_ends_key, is_there}
+use Rattle.edi_record.specs.Records.{is_link}
 use Rattle.edi_diff.specs.inner.Joints.{record_by}
 use Rattle.edi_diff.specs.inner.Progress.{Progress, link_class_at, known_name, plan_of}
 

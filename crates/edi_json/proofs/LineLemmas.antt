@@ -16,7 +16,7 @@ use Rattle.edi_report.specs.Reports.{Report}
 use Rattle.edi_json.specs.Listed.{Listed}
 use Rattle.edi_json.specs.Texts.{ReadsAs, json_line, json_text}
 use Rattle.edi_json.specs.Values.{listed_value, listed_values}
-use Rattle.edi_json.specs.inner.Lines.{HasLines, IsOneLine, IsPlainText}
+use Rattle.edi_json.specs.inner.Lines.{HasLines, IsValueInOneLine, IsPlainText}
 use Rattle.edi_json.proofs.PlainTexts.{IsPlainToken, all_append, no_feed, no_return, plain_print}
 
 -- what follows from a fact of an `Ok` is one too
@@ -60,7 +60,7 @@ pub more_lines : (old mid new : List ℕ) (first second : List Json) → HasLine
 more_lines old mid new first second h k = record {
   text = k.text ∙ (ap (λ xs. xs ++ json_text second) h.text ∙ (append_assoc old (json_text first) (json_text second)
       ∙ ap (λ xs. old ++ xs) (sym (flat_map-append json_line first second))));
-  lines = all_append IsOneLine first second h.lines k.lines;
+  lines = all_append IsValueInOneLine first second h.lines k.lines;
 }
 
 -- the same of lists of records
@@ -96,7 +96,7 @@ one_line_more line behind plain =
     let cut = ap (slice_split (λ b. b == 10)) (append_assoc line (10 ∷ []) behind) ∙ slice_split_at (λ b. b == 10) line 10 behind (λ k d h. no_feed line plain k d h) refl in
     ap lines_of_parts cut ∙ (one_part_more line split (omega (arith, length-slice_split (λ b. b == 10) behind)) ∙ ap (λ l. l ∷ lines_of_parts split) (stripped line plain))
 
-pub all_read : (values : List Json) → AllByRecursion IsOneLine values → ReadsAs (json_text values) values
+pub all_read : (values : List Json) → AllByRecursion IsValueInOneLine values → ReadsAs (json_text values) values
 all_read [] h = refl
 all_read (j ∷ values) h =
     ap (map document) (one_line_more (print (json_tokens j)) (json_text values) h.0.plain)

@@ -10,7 +10,7 @@ use Rattle.edi_plan.specs.declared.record.PlanRecord.{PlanRecord}
 use Rattle.edi_report.specs.Reports.{Report, parts_at}
 use Rattle.edi_objects.specs.Bounds.{bends, bounds_count, is_bent, is_lost, is_lost_by}
 use Rattle.edi_objects.specs.Differing.{became_of, is_differing}
-use Rattle.edi_objects.specs.inner.Sheets.{AreCounted, AreTested, test_of}
+use Rattle.edi_objects.specs.inner.Sheets.{AreCounted, AreTested, is_marked_place}
 use Rattle.edi_objects.proofs.Marked.{guarded, tested_mapped}
 
 none_behind : (r : Report) (i : ℕ) → length r.first.accepted.list ≤ i → is_differing r i ≡ false
@@ -33,10 +33,10 @@ tested_bent r marks is = tested_mapped (is_bent r) (length r.first.accepted.list
 
 -- what is counted by marks is counted by the test that they are made from
 pub counted_known : (test : ℕ → Bool) (p q : PlanData) (n : ℕ) (marks : List Bool) (counts : List ℕ) → q ≡ p → AreTested test n marks
-    → counts ≡ map (bounds_count (test_of marks) q) (range_with_len 0 (length q.list)) → AreCounted test p counts
+    → counts ≡ map (bounds_count (is_marked_place marks) q) (range_with_len 0 (length q.list)) → AreCounted test p counts
 counted_known test p q n marks counts same tested is = subst (λ (d : PlanData). AreCounted test d counts) same each
   where
     each : AreCounted test q counts
     each i h = ap (λ (xs : List ℕ). get_or xs i 0) is
-        ∙ (get_or-map-range_with_len (bounds_count (test_of marks) q) 0 (length q.list) i i 0 h (omega arith)
+        ∙ (get_or-map-range_with_len (bounds_count (is_marked_place marks) q) 0 (length q.list) i i 0 h (omega arith)
         ∙ ap (λ (t : ℕ → Bool). bounds_count t q i) (fun_ext tested.each))

@@ -15,7 +15,7 @@ use Rattle.edi_objects.specs.LinksOf.{index_of}
 use Rattle.edi_plan.specs.Plans.{PlanData}
 use Rattle.edi_objects.specs.inner.Marks.{is_moved_onto}
 use Rattle.edi_objects.specs.declared.account.Notes.{Notes}
-use Rattle.edi_objects.specs.inner.Sheets.{AreNotes, AreTested, test_of}
+use Rattle.edi_objects.specs.inner.Sheets.{AreNotes, AreTested, is_marked_place}
 
 -- one number more
 range_more : (k : ℕ) → range_with_len 0 (k + 1) ≡ range_with_len 0 k ++ k ∷ []
@@ -42,13 +42,13 @@ lines_more f k old text new so_far more =
 -- the notes on a plan
 pub notes_are : (test : ℕ → Bool) (p : PlanData) (marks : List Bool) (notes : Notes) → AreTested test (length p.list) marks
     → notes.index.items ≡ index_of p → notes.marks.items ≡ marks
-    → notes.outlines.items ≡ map (outline_differs (test_of marks) p) (range_with_len 0 (length p.list)) → AreNotes test p notes
+    → notes.outlines.items ≡ map (outline_differs (is_marked_place marks) p) (range_with_len 0 (length p.list)) → AreNotes test p notes
 notes_are test p marks notes tested indexed same outlined = record {
   indexed = indexed;
   marked = subst (AreTested test (length p.list)) (sym same) tested;
   outlined = λ i h.
       ap (λ (ms : List Bool). get_or ms i false) outlined
-      ∙ (get_or-map-range_with_len (outline_differs (test_of marks) p) 0 (length p.list) i i false h (omega arith)
+      ∙ (get_or-map-range_with_len (outline_differs (is_marked_place marks) p) 0 (length p.list) i i false h (omega arith)
       ∙ ap (λ (t : ℕ → Bool). outline_differs t p i) (fun_ext tested.each));
 }
 

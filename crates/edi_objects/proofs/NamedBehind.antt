@@ -10,7 +10,7 @@ use Rattle.edi_rank.proofs.KeysPreserved.{all_weaker}
 use Rattle.edi_report.specs.Reports.{Report}
 use Rattle.edi_objects.specs.Elements.{most_named}
 use Rattle.edi_objects.specs.Objects.{has_further_outline, has_other_outline}
-use Rattle.edi_objects.specs.inner.Sheets.{AreFurther, AreOthers, names_further, test_of}
+use Rattle.edi_objects.specs.inner.Sheets.{AreFurther, AreOthers, names_further, is_marked_place}
 use Rattle.edi_objects.proofs.AttributeLists.{all_mapped}
 
 any_alike : (t u : ℕ → Bool) (xs : List ℕ) → AllByRecursion (λ (x : ℕ). t x ≡ u x) xs → list_any t xs ≡ list_any u xs
@@ -23,24 +23,24 @@ all_dropped P (suc n) [] all = tt
 all_dropped P (suc n) (x ∷ xs) all = all_dropped P n xs all.1
 
 -- what is noted of each of so many places
-pub noted : (test : ℕ → Bool) (n : ℕ) (marks : List Bool) → marks ≡ map test (range_with_len 0 n) → (i : ℕ) → i < n → test_of marks i ≡ test i
+pub noted : (test : ℕ → Bool) (n : ℕ) (marks : List Bool) → marks ≡ map test (range_with_len 0 n) → (i : ℕ) → i < n → is_marked_place marks i ≡ test i
 noted test n marks is i h = ap (λ (ms : List Bool). get_or ms i false) is ∙ get_or-map-range_with_len test 0 n i i false h (omega arith)
 
 pub further_known : (r : Report) → IsWholePlan r.first.accepted → (others further : List Bool) → AreOthers r others
-    → further ≡ map (names_further (test_of others) r.first.accepted) (range_with_len 0 (length r.first.accepted.list)) → AreFurther r further
+    → further ≡ map (names_further (is_marked_place others) r.first.accepted) (range_with_len 0 (length r.first.accepted.list)) → AreFurther r further
 unfolding has_further_outline
 further_known r whole others further are is i h =
-    noted (names_further (test_of others) r.first.accepted) (length r.first.accepted.list) further is i h
-    ∙ any_alike (test_of others) (has_other_outline r) (drop most_named (targets (record_at r.first.accepted i)))
-    (all_dropped (λ (x : ℕ). test_of others x ≡ has_other_outline r x) most_named (targets (record_at r.first.accepted i))
-    (all_weaker (IsPlace r.first.accepted) (λ (x : ℕ). test_of others x ≡ has_other_outline r x) are (targets (record_at r.first.accepted i))
+    noted (names_further (is_marked_place others) r.first.accepted) (length r.first.accepted.list) further is i h
+    ∙ any_alike (is_marked_place others) (has_other_outline r) (drop most_named (targets (record_at r.first.accepted i)))
+    (all_dropped (λ (x : ℕ). is_marked_place others x ≡ has_other_outline r x) most_named (targets (record_at r.first.accepted i))
+    (all_weaker (IsPlace r.first.accepted) (λ (x : ℕ). is_marked_place others x ≡ has_other_outline r x) are (targets (record_at r.first.accepted i))
     (all_mapped (λ (e : PlanEnd). e.target) (IsPlace r.first.accepted) (record_at r.first.accepted i).ends (whole.there i h))))
 
 pub further_found : {X E : Type 0} (r : Report) (p : PlanData) (others : List Bool) (found : Result X E) (items : X → List Bool) → p ≡ r.first.accepted → IsWholePlan p → AreOthers r others
-    → IfOk found (λ x. items x ≡ map (names_further (test_of others) p) (range_with_len 0 (length p.list))) → IfOk found (λ x. AreFurther r (items x))
+    → IfOk found (λ x. items x ≡ map (names_further (is_marked_place others) p) (range_with_len 0 (length p.list))) → IfOk found (λ x. AreFurther r (items x))
 further_found r p others (Err e) items is whole are marked = tt
 further_found r p others (Ok x) items is whole are marked =
-    further_known r (subst IsWholePlan is whole) others (items x) are (subst (λ (q : PlanData). items x ≡ map (names_further (test_of others) q) (range_with_len 0 (length q.list))) is marked)
+    further_known r (subst IsWholePlan is whole) others (items x) are (subst (λ (q : PlanData). items x ≡ map (names_further (is_marked_place others) q) (range_with_len 0 (length q.list))) is marked)
 
 pub mapped_drop : {X Y : Type 0} (f : X → Y) (n : ℕ) (xs : List X) → map f (drop n xs) ≡ drop n (map f xs)
 mapped_drop f zero xs = refl

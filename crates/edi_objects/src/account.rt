@@ -11,7 +11,7 @@ ghost use Rattle.edi_objects.specs.Counts.{changed_classes};
 ghost use Rattle.edi_objects.specs.Differing.{arrives, became_of, is_differing, outline_differs, same_of};
 ghost use Rattle.edi_objects.specs.Elements.{change_text, changed_element, elements_of, first_element, first_elements, second_element, second_elements};
 ghost use Rattle.edi_objects.specs.Objects.{has_further_outline};
-ghost use Rattle.edi_objects.specs.inner.Sheets.{test_of};
+ghost use Rattle.edi_objects.specs.inner.Sheets.{is_marked_place};
 ghost use Rattle.edi_report.specs.Lines.{is_reached};
 ghost use Rattle.edi_report.specs.Reports.{HasSites, parts_at};
 
@@ -47,7 +47,7 @@ impl Notes {
         ensures index { IfOk result (λ notes. notes.index.items ≡ index_of plan.now) }
         ensures marks { IfOk result (λ notes. notes.marks.items ≡ marks.items) }
         ensures outlines { IfOk result (λ notes. notes.outlines.items
-            ≡ map (outline_differs (test_of marks.items) plan.now) (range_with_len 0 (length plan.now.list))) }
+            ≡ map (outline_differs (is_marked_place marks.items) plan.now) (range_with_len 0 (length plan.now.list))) }
     {
         let index = index_of(alloc, plan)?;
         let outlines = outlines(alloc, plan, &index, &marks)?;

@@ -6,7 +6,7 @@ ghost use Rattle.edi_report.specs.Reports.{HasSites};
 ghost use Rattle.edi_plan.specs.Plans.{IsPlace};
 ghost use Rattle.edi_objects.specs.Accounts.{record_line_text, bare_link, bare_links, changed_link, changed_parts, first_bare_link, first_bare_links, is_told_beside, second_bare_link, second_bare_links};
 ghost use Rattle.edi_objects.specs.Differing.{arrives, is_differing};
-ghost use Rattle.edi_objects.specs.inner.Sheets.{test_of};
+ghost use Rattle.edi_objects.specs.inner.Sheets.{is_marked_place};
 
 use crate::account::ObjectReporter;
 use crate::elements::SheetNamer;
@@ -21,7 +21,7 @@ use std::alloc::AllocError;
 /// Whether a link names an object, or a record that is marked.
 fn is_told_beside(plan: &Plan, marks: &[bool], link: u32) -> bool
     requires { IsPlace plan.now link }
-    ensures { result ≡ is_told_beside (test_of marks.now) plan.now link }
+    ensures { result ≡ is_told_beside (is_marked_place marks.now) plan.now link }
 {
     for end in plan.ends(link) {
         if end.target < plan.len() && is_object(plan.kind(end.target))

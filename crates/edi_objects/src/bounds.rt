@@ -7,7 +7,7 @@ ghost use Rattle.edi_plan.specs.Sides.{targets};
 ghost use Rattle.edi_objects.specs.Bounds.{bends, bounds_and, bounds_count, bounds_text, bounds_with, is_bent, is_lost, is_lost_by, outline_counts_by};
 ghost use Rattle.edi_objects.specs.Differing.{arrives, is_differing, is_initial_or_final, is_left_or_right};
 ghost use Rattle.edi_objects.specs.LinksOf.{entries_of, index_of};
-ghost use Rattle.edi_objects.specs.inner.Sheets.{AreBoundCounts, AreNotes, AreTested, test_of};
+ghost use Rattle.edi_objects.specs.inner.Sheets.{AreBoundCounts, AreNotes, AreTested, is_marked_place};
 
 use crate::account::Notes;
 use crate::index::entries_of;
@@ -118,7 +118,7 @@ fn is_bent(report: &Reporter<'_>, marks: &[bool], lost: &[bool], link: u32) -> b
 /// Whether a record by which a link bounds is marked.
 fn some_bends(plan: &Plan, marks: &[bool], link: u32) -> bool
     requires { IsPlace plan.now link }
-    ensures { result ≡ list_any (bends (test_of marks.now) plan.now link) (targets (record_at plan.now link)) }
+    ensures { result ≡ list_any (bends (is_marked_place marks.now) plan.now link) (targets (record_at plan.now link)) }
 {
     plan.keeps();
     let role = plan.role(link);
@@ -150,7 +150,7 @@ fn bounds_counts(
 ) -> Result<Vec<usize>, AllocError>
     requires { index.now ≡ index_of plan.now }
     ensures { IfOk result (λ counts. counts.items
-        ≡ map (bounds_count (test_of marks.now) plan.now) (range_with_len 0 (length plan.now.list))) }
+        ≡ map (bounds_count (is_marked_place marks.now) plan.now) (range_with_len 0 (length plan.now.list))) }
 {
     let mut counts = Vec::new(alloc);
     for place in 0..plan.len() {
@@ -162,7 +162,7 @@ fn bounds_counts(
 /// How many links that bound a record are marked.
 fn bounds_count(plan: &Plan, index: &[(u32, u32)], marks: &[bool], place: u32) -> usize
     requires { index.now ≡ index_of plan.now }
-    ensures { result ≡ bounds_count (test_of marks.now) plan.now place }
+    ensures { result ≡ bounds_count (is_marked_place marks.now) plan.now place }
 {
     entries_of(index, place)
         .iter()
@@ -172,7 +172,7 @@ fn bounds_count(plan: &Plan, index: &[(u32, u32)], marks: &[bool], place: u32) -
 
 /// Whether a link bounds a record, and is marked.
 fn bounds_and(plan: &Plan, marks: &[bool], place: u32, link: u32) -> bool
-    ensures { result ≡ bounds_and (test_of marks.now) plan.now place link }
+    ensures { result ≡ bounds_and (is_marked_place marks.now) plan.now place link }
 {
     place < plan.len()
         && link < plan.len()

@@ -5,7 +5,7 @@ ghost use Rattle.std.specs.List.{range_with_len};
 ghost use Rattle.edi_plan.specs.Plans.{IsPlace};
 ghost use Rattle.edi_objects.specs.Differing.{arrives, is_differing};
 ghost use Rattle.edi_objects.specs.Objects.{has_other_outline, outline_there};
-ghost use Rattle.edi_objects.specs.inner.Sheets.{AreFurther, AreOthers, AreOutlined, names_further, test_of};
+ghost use Rattle.edi_objects.specs.inner.Sheets.{AreFurther, AreOthers, AreOutlined, names_further, is_marked_place};
 
 use crate::elements::MOST_NAMED;
 use crate::marks::{became_of, record_count};
@@ -82,7 +82,7 @@ fn outline_there(report: &Reporter<'_>, there: &[bool], target: Option<u32>) -> 
 /// Of each record of a plan, whether one that it names behind the first few is marked.
 fn naming_further(alloc: Global, plan: &Plan, marks: &[bool]) -> Result<Vec<bool>, AllocError>
     ensures { IfOk result (λ further. further.items
-        ≡ map (names_further (test_of marks.now) plan.now) (range_with_len 0 (length plan.now.list))) }
+        ≡ map (names_further (is_marked_place marks.now) plan.now) (range_with_len 0 (length plan.now.list))) }
 {
     let mut further = Vec::new(alloc);
     for place in 0..plan.len() {

@@ -5,7 +5,7 @@ ghost use Rattle.std.specs.List.{list_any, range_with_len};
 ghost use Rattle.edi_plan.specs.Plans.{IsPlace, record_at};
 ghost use Rattle.edi_objects.specs.Differing.{bounds_type, bounds_anew, is_initial_or_final, is_left_or_right, outline_differs};
 ghost use Rattle.edi_objects.specs.LinksOf.{entries_of, index_of};
-ghost use Rattle.edi_objects.specs.inner.Sheets.{test_of};
+ghost use Rattle.edi_objects.specs.inner.Sheets.{is_marked_place};
 
 use crate::index::entries_of;
 use edi_plan::{Plan, PlanEnd};
@@ -22,7 +22,7 @@ pub(crate) fn outlines(
 ) -> Result<Vec<bool>, AllocError>
     requires { index.now ≡ index_of plan.now }
     ensures { IfOk result (λ outlines. outlines.items
-        ≡ map (outline_differs (test_of marks.now) plan.now) (range_with_len 0 (length plan.now.list))) }
+        ≡ map (outline_differs (is_marked_place marks.now) plan.now) (range_with_len 0 (length plan.now.list))) }
 {
     let mut outlines = Vec::new(alloc);
     for place in 0..plan.len() {
@@ -35,7 +35,7 @@ pub(crate) fn outlines(
 fn outline_differs(plan: &Plan, index: &[(u32, u32)], marks: &[bool], place: u32) -> bool
     requires index { index.now ≡ index_of plan.now }
     requires place { IsPlace plan.now place }
-    ensures { result ≡ outline_differs (test_of marks.now) plan.now place }
+    ensures { result ≡ outline_differs (is_marked_place marks.now) plan.now place }
 {
     if is_marked(marks, place) {
         return true;
@@ -51,7 +51,7 @@ fn outline_differs(plan: &Plan, index: &[(u32, u32)], marks: &[bool], place: u32
 /// Whether a link bounds a record, and it differs or a record that it names.
 fn bounds_anew(plan: &Plan, marks: &[bool], place: u32, link: u32) -> bool
     requires place { IsPlace plan.now place }
-    ensures { result ≡ bounds_anew (test_of marks.now) plan.now place link }
+    ensures { result ≡ bounds_anew (is_marked_place marks.now) plan.now place link }
 {
     link < plan.len()
         && bounds_type(plan.role(link), plan.kind(place))
@@ -60,7 +60,7 @@ fn bounds_anew(plan: &Plan, marks: &[bool], place: u32, link: u32) -> bool
 
 /// Whether some end is marked.
 pub(crate) fn some_marked(marks: &[bool], ends: &[PlanEnd]) -> bool
-    ensures { result ≡ list_any (test_of marks.now) (map (λ e. e.target) ends.now) }
+    ensures { result ≡ list_any (is_marked_place marks.now) (map (λ e. e.target) ends.now) }
 {
     for end in ends {
         if is_marked(marks, end.target) {
@@ -72,7 +72,7 @@ pub(crate) fn some_marked(marks: &[bool], ends: &[PlanEnd]) -> bool
 
 /// Whether a record is marked.
 pub(crate) fn is_marked(marks: &[bool], place: u32) -> bool
-    ensures { result ≡ test_of marks.now place }
+    ensures { result ≡ is_marked_place marks.now place }
 {
     match marks.get(place as usize) {
         Some(mark) => *mark,

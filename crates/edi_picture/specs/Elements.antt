@@ -66,5 +66,5 @@ abbrev pub record_text : Kind → Classes → Extent → Ink → Sheet → ℕ �
 record_text kind s f ink sheet k = if is_drawn_in ink (mark_at sheet k) then element kind s f ink sheet k else []
 
 -- the records of a type of a sheet, in file order
-abbrev pub records_of : Kind → Classes → Extent → Ink → Sheet → List ℕ
-records_of kind s f ink sheet = flat_map (record_text kind s f ink sheet) (places_of kind sheet.plan)
+abbrev pub drawn_records : Kind → Classes → Extent → Ink → Sheet → List ℕ
+drawn_records kind s f ink sheet = flat_map (record_text kind s f ink sheet) (places_of kind sheet.plan)

@@ -4,7 +4,7 @@ use Rattle.std.specs.List.{flat_map}
 use Rattle.edi_record.specs.declared.record.Kind.TheVariants.{Pno, Par}
 use Rattle.edi_schema.specs.Classes.{Classes}
 use Rattle.edi_plan.specs.declared.extent.Extent.{Extent}
-use Rattle.edi_picture.specs.Elements.{records_of}
+use Rattle.edi_picture.specs.Elements.{drawn_records}
 use Rattle.edi_picture.specs.Faces.{faces_of}
 use Rattle.edi_picture.specs.Frames.{IsBar, IsFrame, pixels, plan_height, side_length}
 use Rattle.edi_picture.specs.Labels.{labels_of}
@@ -37,7 +37,7 @@ arcs_begin f ink = codes "<g fill='none' stroke-linejoin='round' stroke='" ++ co
 -- the arcs of all sheets in an ink
 abbrev pub arcs_text : Classes → Extent → List Sheet → Ink → List ℕ
 arcs_text s f sheets ink =
-    arcs_begin f ink ++ dashes f ink ++ flat_map (records_of Par s f ink) sheets ++ group_end
+    arcs_begin f ink ++ dashes f ink ++ flat_map (drawn_records Par s f ink) sheets ++ group_end
 
 abbrev pub nodes_begin : Ink → List ℕ
 nodes_begin ink = codes "<g fill='" ++ filling ink ++ codes "' stroke='" ++ colour ink
@@ -48,7 +48,7 @@ rim_text f = codes "' stroke-width='" ++ pixels f 1 ++ codes "'>\n"
 -- the nodes of all sheets in an ink
 abbrev pub nodes_text : Classes → Extent → List Sheet → Ink → List ℕ
 nodes_text s f sheets ink =
-    nodes_begin ink ++ rim_text f ++ flat_map (records_of Pno s f ink) sheets ++ group_end
+    nodes_begin ink ++ rim_text f ++ flat_map (drawn_records Pno s f ink) sheets ++ group_end
 
 -- what both sheets have lies below what the second has, and that below what the first has, whose dashes and rings
 -- don't cover it

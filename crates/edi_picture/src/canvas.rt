@@ -78,7 +78,7 @@ impl<'a> Canvas<'a> {
     ghost use Rattle.std.specs.List.{flat_map};
     ghost use Rattle.edi_plan.specs.Agreeing.{HasClasses};
     ghost use Rattle.edi_plan.specs.Plans.{IsPlace, record_at};
-    ghost use Rattle.edi_picture.specs.Elements.{arc_element, dot_element, dot_text, record_text, records_of, spots_text};
+    ghost use Rattle.edi_picture.specs.Elements.{arc_element, dot_element, dot_text, record_text, drawn_records, spots_text};
     ghost use Rattle.edi_picture.specs.Titles.{title_text};
 
     /// Appends the points of a record.
@@ -189,7 +189,7 @@ impl<'a> Canvas<'a> {
     ) -> Result<(), AllocError>
         requires { HasClasses self.now.schema.now sheet.now.plan }
         ensures { OnOk result (text.new.items
-            ≡ text.old.items ++ records_of kind self.now.schema.now self.now.frame ink sheet.now) }
+            ≡ text.old.items ++ drawn_records kind self.now.schema.now self.now.frame ink sheet.now) }
     {
         for place in sheet.plan().places(kind) {
             self.push_record(text, kind, ink, sheet, *place)?;

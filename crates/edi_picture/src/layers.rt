@@ -2,7 +2,7 @@
 
 ghost use Rattle.std.specs.Prelude.{◌≡◌, ◌≤◌, ◌++◌, OnOk};
 ghost use Rattle.std.specs.List.{flat_map};
-ghost use Rattle.edi_picture.specs.Elements.{records_of};
+ghost use Rattle.edi_picture.specs.Elements.{drawn_records};
 ghost use Rattle.edi_picture.specs.Faces.{faces_of};
 ghost use Rattle.edi_picture.specs.Labels.{labels_of};
 ghost use Rattle.edi_picture.specs.Pictures.{all_arcs, all_nodes, arcs_begin, arcs_text, dashes, faces_text, labels_text, layers, nodes_begin, nodes_text, plan_text, rim_text};
@@ -47,7 +47,7 @@ fn push_all_records(
 ) -> Result<(), AllocError>
     requires { AllHaveClasses canvas.now.schema.now sheets.now }
     ensures { OnOk result (text.new.items
-        ≡ text.old.items ++ flat_map (records_of kind canvas.now.schema.now canvas.now.frame ink) sheets.now) }
+        ≡ text.old.items ++ flat_map (drawn_records kind canvas.now.schema.now canvas.now.frame ink) sheets.now) }
 {
     for sheet in sheets {
         canvas.push_records(text, kind, ink, sheet)?;

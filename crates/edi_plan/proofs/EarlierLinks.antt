@@ -13,7 +13,7 @@ use Rattle.edi_plan.specs.PlanOf.{StatesPlanEnd, StatesPlanRecord}
 use Rattle.edi_plan.specs.Plans.{blank}
 use Rattle.edi_plan.specs.ReferenceRules.{BreaksReferenceRule, IsLinkOfRole, Names}
 use Rattle.edi_plan.specs.ReferenceRules.BreaksReferenceRule.{repeats_name, lacks_class, lacks_attribute_class, leaves_subset, names_nothing, joins_wrong, repeats_side}
-use Rattle.edi_plan.specs.inner.EarlierLinks.{ends_at, IsOfSideAt}
+use Rattle.edi_plan.specs.inner.EarlierLinks.{ends_at_place, IsOfSideAt}
 use Rattle.edi_plan.specs.inner.Findings.{is_arc_at}
 use Rattle.edi_plan.specs.inner.Resolving.{role_of_link}
 use Rattle.edi_plan.specs.inner.Targets.{IsTargetIfAny}
@@ -46,14 +46,14 @@ module _ (s : Classes) (list : List Record) (e : End) (t : Option Target) (is : 
   abbrev pub IsShared : Type 0
   IsShared = (a : ℕ) × Names s list e a Par × Any (λ d. Names s list d a Par) ds
 
-  arc_shared : ends_at fs t ≡ true → IsShared
+  arc_shared : ends_at_place fs t ≡ true → IsShared
   arc_shared h =
       let found =
       zip_any (StatesPlanEnd list) (λ d. (a : ℕ) × Names s list e a Par × Names s list d a Par) (λ (f : PlanEnd). is_arc_at f.target t)
       (λ d f state yes. let named = arc_named s list f.target e t is yes in (f.target, named, (named.0, state.target, named.2, named.3))) ds fs states h in
       (found.4.0, found.4.1, (found.0, found.1, found.2, found.3, found.4.2))
 
-  shared_arc : (a : ℕ) → Names s list e a Par → Any (λ d. Names s list d a Par) ds → ends_at fs t ≡ true
+  shared_arc : (a : ℕ) → Names s list e a Par → Any (λ d. Names s list d a Par) ds → ends_at_place fs t ≡ true
   shared_arc a named any =
       any_zip (StatesPlanEnd list) (λ d. Names s list d a Par) (λ (f : PlanEnd). is_arc_at f.target t)
       (λ d f state other. ap (λ n. is_arc_at n t) (same_some (sym state.target ∙ other.1)) ∙ named_arc s list a e t is named) ds fs states any
@@ -66,7 +66,7 @@ module _ (s : Classes) (list : List Record) (place : ℕ) (r : Record) (here : s
       let q = zip_at (StatesPlanRecord s list) (take place list) planned stated k p (slice_get_within planned k p d.1) in
       let states = subst (StatesPlanRecord s list q.0) (get_or_from_slice_get planned k p p d.1) q.2 in
       let there = taken_at list place k q.0 q.1 in
-      let arc = zip_any (IsTargetIfAny list) (λ e. (a : ℕ) × Names s list e a Par × Any (λ d. Names s list d a Par) q.0.ends) (ends_at p.ends) (λ e t aim. arc_shared s list e t aim q.0.ends p.ends states.ends) r.ends own aimed d.2.2 in
+      let arc = zip_any (IsTargetIfAny list) (λ e. (a : ℕ) × Names s list e a Par × Any (λ d. Names s list d a Par) q.0.ends) (ends_at_place p.ends) (λ e t aim. arc_shared s list e t aim q.0.ends p.ends states.ends) r.ends own aimed d.2.2 in
       (q.0, r, role, there.0, there.1, here, proper, (sym states.kind ∙ d.2.0, states.role ∙ ap Some d.2.1), is, (arc.4.0, arc.4.2, (arc.0, arc.1, arc.2, arc.3, arc.4.1)))
 
   pub side_of : (k : ℕ) → SharesSide s list place k → IsOfSideAt planned role own k
@@ -81,7 +81,7 @@ module _ (s : Classes) (list : List Record) (place : ℕ) (r : Record) (here : s
         (
           states.kind ∙ h.7.0,
           same_some (sym states.role ∙ (h.7.1 ∙ ap Some one)),
-          any_zip (IsTargetIfAny list) (λ e. Names s list e h.9.0 Par) (ends_at p.ends) (λ e t aim named. shared_arc s list e t aim h.0.ends p.ends states.ends h.9.0 named h.9.1) r.ends own aimed
+          any_zip (IsTargetIfAny list) (λ e. Names s list e h.9.0 Par) (ends_at_place p.ends) (λ e t aim named. shared_arc s list e t aim h.0.ends p.ends states.ends h.9.0 named h.9.1) r.ends own aimed
               (subst (λ (x : Record). Any (λ e. Names s list e h.9.0 Par) x.ends) here_is h.9.2),
         ),
       )

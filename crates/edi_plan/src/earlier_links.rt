@@ -3,7 +3,7 @@
 ghost use Rattle.std.specs.Prelude.{◌≡◌, ◌≢◌, ◌↔◌, IsTrue, None, true};
 ghost use Rattle.std.specs.List.{list_any};
 ghost use Rattle.edi_plan.specs.EarlierLinks.{IsLeastIfAny};
-ghost use Rattle.edi_plan.specs.inner.EarlierLinks.{ends_at as ends_at_arc, IsOfSide, IsOfSideAt};
+ghost use Rattle.edi_plan.specs.inner.EarlierLinks.{ends_at_place as ends_at_arc, IsOfSide, IsOfSideAt};
 ghost use Rattle.edi_plan.specs.inner.Findings.{is_arc_at as is_arc_there};
 ghost use Rattle.edi_plan.specs.inner.RecordLists.{plan_record_of, plan_records_of};
 ghost use Rattle.edi_record.specs.AnyRecords.{record_lent};

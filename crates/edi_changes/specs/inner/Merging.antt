@@ -24,8 +24,8 @@ IsLedBy s [] = ⊥
 IsLedBy s (e ∷ es) = e.subject ≡ s
 
 -- the least subject of two lists
-abbrev pub IsLeast : List ℕ → List Entry → List Entry → Type 0
-IsLeast s before after = AllFrom s before × AllFrom s after × (IsLedBy s before ⊎ IsLedBy s after)
+abbrev pub IsLeastSubject : List ℕ → List Entry → List Entry → Type 0
+IsLeastSubject s before after = AllFrom s before × AllFrom s after × (IsLedBy s before ⊎ IsLedBy s after)
 
 -- how many entries in front are of a subject
 abbrev pub run_length : List ℕ → List Entry → ℕ

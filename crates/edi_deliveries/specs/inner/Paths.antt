@@ -24,8 +24,8 @@ FindsFirst names table = (key : List ℕ)
     ≡ find (λ name. bytes_eq key (str_to_ascii_lowercase name)) names
 
 -- a table has just these names
-abbrev pub HasNames : {S : Type 0} → List (List ℕ) → IndexSet (Bor (List ℕ)) S → Type 0
-HasNames names table = (name : List ℕ)
+abbrev pub HasJustNames : {S : Type 0} → List (List ℕ) → IndexSet (Bor (List ℕ)) S → Type 0
+HasJustNames names table = (name : List ℕ)
     → list_any (bytes_eq name) (map (λ (other : Bor (List ℕ)). other.now) table.keys) ≡ list_any (bytes_eq name) names
 
 -- the paths of those of its VEC files that are there

@@ -1,14 +1,14 @@
 -- By what a record may be known again, though it changed.
-use Rattle.std.specs.Prelude.{ℕ, Bool, true, false, not, ◌&&◌, List, [], ◌∷◌, map, length, nat_lt, Option, None, Some, option_map, if◌then◌else◌}
+use Rattle.std.specs.Prelude.{ℕ, Bool, not, ◌&&◌, List, [], ◌∷◌, map, length, nat_lt, Option, None, Some, option_map, if◌then◌else◌}
 use Rattle.std.specs.Ordering.{nat_cmp, ordering_then}
 use Rattle.std.specs.Cmp.Lexicographic.{slice_cmp}
 use Rattle.std.specs.declared.cmp.Ordering.{Ordering}
 use Rattle.edi_record.specs.Orders.{points_cmp}
+use Rattle.edi_record.specs.Records.{has_points, is_link}
 use Rattle.edi_record.specs.contracts.record.KindOrd.TheImpl.{ghosts as kinds}
 use Rattle.edi_record.specs.contracts.record.ExtraOrd.TheImpl.{ghosts as extras}
 use Rattle.edi_record.specs.declared.record.Extra.{Extra}
 use Rattle.edi_record.specs.declared.record.Kind.{Kind}
-use Rattle.edi_record.specs.declared.record.Kind.TheVariants.{Pno, Par, Pfe, Fea, Lnk}
 use Rattle.edi_record.specs.declared.record.Point.{Point}
 use Rattle.edi_schema.specs.Sorted.{sort_by}
 use Rattle.edi_plan.specs.Orders.{attribute_cmp}
@@ -21,22 +21,6 @@ use Rattle.edi_diff.specs.declared.proposing.LinkClass.{LinkClass}
 use Rattle.edi_diff.specs.inner.Codes.{is_of_second, place_by}
 use Rattle.edi_diff.specs.inner.Joints.{joined_with, record_by}
 use Rattle.edi_diff.specs.inner.Progress.{Progress, link_class_at, known_name, plan_of}
-
--- nodes and arcs
-abbrev pub has_points : Kind → Bool
-has_points Pno = true
-has_points Par = true
-has_points Pfe = false
-has_points Fea = false
-has_points Lnk = false
-
--- links
-abbrev pub is_link : Kind → Bool
-is_link Pno = false
-is_link Par = false
-is_link Pfe = false
-is_link Fea = false
-is_link Lnk = true
 
 -- there is a record at the place
 abbrev pub is_there : PlanData → ℕ → Bool

@@ -13,14 +13,14 @@ abbrev pub IsPlainText : List ℕ → Type 0
 IsPlainText = AllByRecursion (λ byte. 32 ≤ byte)
 
 -- the text of the value is one line, in which a reader finds the value
-pub record IsOneLine (value : Json) : Type 0 where
+pub record IsValueInOneLine (value : Json) : Type 0 where
   pub read : document (print (json_tokens value)) ≡ Some value
   pub plain : IsPlainText (print (json_tokens value))
 
 -- the lines of these values more
 pub record HasLines (old new : List ℕ) (values : List Json) : Type 0 where
   pub text : new ≡ old ++ json_text values
-  pub lines : AllByRecursion IsOneLine values
+  pub lines : AllByRecursion IsValueInOneLine values
 
 -- the value of the line of a record
 abbrev pub value_of_line : RecordLine → Json

@@ -13,25 +13,25 @@ use Rattle.edi_objects.specs.declared.account.Notes.{Notes}
 use Rattle.edi_objects.specs.declared.bounds.BoundCounts.{BoundCounts}
 
 -- whether a place is marked
-abbrev pub test_of : List Bool → ℕ → Bool
-test_of marks place = slice_index_or marks place false
+abbrev pub is_marked_place : List Bool → ℕ → Bool
+is_marked_place marks place = slice_index_or marks place false
 
 -- so many places are marked where the test holds, and it holds of no other
 pub record AreTested (test : ℕ → Bool) (count : ℕ) (marks : List Bool) : Type 0 where
   pub long : length marks ≡ count
-  pub each : (i : ℕ) → test_of marks i ≡ test i
+  pub each : (i : ℕ) → is_marked_place marks i ≡ test i
 
 -- the places whose outlines differ are marked
 abbrev pub AreOutlined : (ℕ → Bool) → PlanData → List Bool → Type 0
-AreOutlined test p outlines = (i : ℕ) → IsPlace p i → test_of outlines i ≡ outline_differs test p i
+AreOutlined test p outlines = (i : ℕ) → IsPlace p i → is_marked_place outlines i ≡ outline_differs test p i
 
 -- the records of the first sheet are marked of which the outline differs in either sheet
 abbrev pub AreOthers : Report → List Bool → Type 0
-AreOthers r others = (i : ℕ) → IsPlace r.first.accepted i → test_of others i ≡ has_other_outline r i
+AreOthers r others = (i : ℕ) → IsPlace r.first.accepted i → is_marked_place others i ≡ has_other_outline r i
 
 -- and those that name one behind the first four
 abbrev pub AreFurther : Report → List Bool → Type 0
-AreFurther r further = (i : ℕ) → IsPlace r.first.accepted i → test_of further i ≡ has_further_outline r i
+AreFurther r further = (i : ℕ) → IsPlace r.first.accepted i → is_marked_place further i ≡ has_further_outline r i
 
 -- a test holds of one of the records that the one at a place names behind the first four
 abbrev pub names_further : (ℕ → Bool) → PlanData → ℕ → Bool

@@ -9,12 +9,12 @@ use Rattle.edi_plan.specs.declared.record.PlanRecord.{PlanRecord}
 use Rattle.edi_plan.specs.declared.targets.Target.{Target}
 
 -- whether one of these ends leads to an arc that is this target
-abbrev pub ends_at : List PlanEnd → Option Target → Bool
-ends_at ends target = list_any (λ e. is_arc_at e.target target) ends
+abbrev pub ends_at_place : List PlanEnd → Option Target → Bool
+ends_at_place ends target = list_any (λ e. is_arc_at e.target target) ends
 
 -- a link of a role, of which an end leads to an arc among these targets
 abbrev pub IsOfSide : Role → List (Option Target) → PlanRecord → Type 0
-IsOfSide role own p = (p.kind ≡ Lnk) × (p.role ≡ role) × (list_any (ends_at p.ends) own ≡ true)
+IsOfSide role own p = (p.kind ≡ Lnk) × (p.role ≡ role) × (list_any (ends_at_place p.ends) own ≡ true)
 
 -- the record at a place is such a link
 abbrev pub IsOfSideAt : List PlanRecord → Role → List (Option Target) → ℕ → Type 0

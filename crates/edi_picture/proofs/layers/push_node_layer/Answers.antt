@@ -2,14 +2,14 @@ use Rattle.std.proofs.Common.{codes}
 use Rattle.std.proofs.lemmas.Result.{on_ok_weaker}
 use Rattle.std.specs.List.{flat_map}
 use Rattle.edi_record.specs.declared.record.Kind.TheVariants.{Pno}
-use Rattle.edi_picture.specs.Elements.{records_of}
+use Rattle.edi_picture.specs.Elements.{drawn_records}
 use Rattle.edi_picture.specs.Pictures.{nodes_begin, rim_text}
 use Rattle.edi_picture.proofs.Joined.{joined4}
 use Rattle.edi_picture.proofs.layers.push_node_layer.Goals as goal
 
 pub returns : goal.returns
 returns c = on_ok_weaker c.put.result
-    (joined4 c.args.text.now.items (nodes_begin c.args.ink) (rim_text c.args.canvas.now.frame) (flat_map (records_of Pno c.args.canvas.now.schema.now c.args.canvas.now.frame c.args.ink) c.args.sheets.now) (codes "</g>\n")
+    (joined4 c.args.text.now.items (nodes_begin c.args.ink) (rim_text c.args.canvas.now.frame) (flat_map (drawn_records Pno c.args.canvas.now.schema.now c.args.canvas.now.frame c.args.ink) c.args.sheets.now) (codes "</g>\n")
     c.push_nodes_begin.new.text.items c.push_rim.new.text.items c.push_all_records.new.text.items c.put.new.text.items
     c.in_ok-push_nodes_begin.ensures c.in_ok-push_rim.ensures c.in_ok-push_all_records.ensures)
     c.put.ensures

@@ -1,7 +1,7 @@
 use Rattle.std.proofs.Common.{◌≡◌, ◌∙◌, ◌<◌, ap, arith, length, option_map, sym, true, Some, Vec, Global, ℕ}
 use Rattle.std.proofs.lemmas.Grind.{common_steps}
 use Rattle.edi_plan.specs.Plans.{record_at}
-use Rattle.edi_diff.specs.inner.Keys.{is_link}
+use Rattle.edi_record.specs.Records.{is_link}
 use Rattle.edi_diff.specs.inner.Progress.{progress_of}
 use Rattle.edi_diff.proofs.EndsKeyed.{ends_key_is}
 use Rattle.edi_diff.proofs.proposing.Open.ends_key.Goals as goal
