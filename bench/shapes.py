@@ -6,7 +6,7 @@
     python3 bench/shapes.py --commands [SHAPE ..]   each sheet through every other command that reads one
 
 Each sheet goes through `canon` with a stack
-of 256 KiB; a pair of sheets that differ through `diff`, and a file of classes or a sheet that is refused through `explain`.
+of 1 MiB; a pair of sheets that differ through `diff`, and a file of classes or a sheet that is refused through `explain`.
 With `--commands` each sheet and its canonical file go through `hash`, `explain`, `draw`, `diff`, `compare --pairing` and `verify`.
 Printed for each shape: the size of its sheet, seconds of user and system time, the peak memory as a multiple of the size,
 how many times as long as a tenth of it takes, and the program's answer. Ten times the sheet should take little more than ten times.
@@ -21,7 +21,7 @@ import generate
 
 HERE = os.path.dirname(os.path.abspath(__file__))
 PROGRAM = os.path.join(HERE, "..", "crates", "edicad", "out", "edicad")
-STACK = 256 * 1024
+STACK = 1024 * 1024
 
 
 def zone(head, value):

@@ -88,7 +88,7 @@ PARTS = {
 }
 # the parts that can be left out, and those that are made of the first build alone
 OPTIONAL = ("mount", "preload", "growths", "kills", "records", "stacks")
-OF_ONE = ("growths", "kills", "records")
+OF_ONE = ("growths", "kills", "records", "stacks")
 
 
 def works():

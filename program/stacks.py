@@ -5,7 +5,7 @@ import shutil
 
 EXAMPLES = os.path.join(os.path.dirname(os.path.abspath(__file__)), "..", "examples")
 # how many bytes of stack a run gets
-STACK = 256 * 1024
+STACK = 640 * 1024
 # The words of each run, and its status. The sheet is `v`, `w` states the same plan, and `x` has a parcel that is named otherwise.
 RUNS = [
     (["check", "s", "d", "v"], 0),
