@@ -1,6 +1,7 @@
 //! Plans: records whose pointers are resolved.
 #![tactic(auto)]
 
+mod arc_sides;
 pub mod attributes;
 mod earlier_links;
 pub mod extent;

@@ -10,10 +10,11 @@ ghost use Rattle.edi_plan.specs.inner.Resolving.{role_of_link};
 ghost use Rattle.edi_plan.specs.inner.SideTable.{link_join, side_at, HaveEntries};
 ghost use Rattle.edi_plan.specs.inner.Targets.{AreTargets};
 
+use crate::arc_sides::ArcSides;
 use crate::sides::{beside, join_of, without_links};
 use crate::targets::Target;
 use edi_record::{Kind, RecordRef, SheetRecords};
-use edi_schema::{ByRole, Role, Schema};
+use edi_schema::{Role, Schema};
 use std::alloc::{AllocError, Global};
 
 /// Which of the rules 305, 306 and 307 a record breaks.
@@ -68,7 +69,7 @@ fn arc_of(target: Option<Target>) -> Option<u32>
 }
 
 /// Whether this is an arc that an earlier link of a kind names.
-fn has_side(sides: &[ByRole<Option<u32>>], role: Role, target: Option<Target>) -> bool
+fn has_side(sides: &[ArcSides], role: Role, target: Option<Target>) -> bool
     requires { HaveEntries sides.now (target ∷ []) }
     ensures { result ≡ is_sided sides.now role target }
 {
@@ -79,7 +80,7 @@ fn has_side(sides: &[ByRole<Option<u32>>], role: Role, target: Option<Target>) -
 }
 
 /// Whether an earlier link of a kind names one of these arcs.
-fn repeats_side(sides: &[ByRole<Option<u32>>], role: Role, targets: &[Option<Target>]) -> bool
+fn repeats_side(sides: &[ArcSides], role: Role, targets: &[Option<Target>]) -> bool
     requires { HaveEntries sides.now targets.now }
     ensures { result ≡ list_any (is_sided sides.now role) targets.now }
 {
@@ -92,7 +93,7 @@ fn repeats_side(sides: &[ByRole<Option<u32>>], role: Role, targets: &[Option<Tar
 }
 
 /// Notes that the link at a place names this, where it is an arc.
-fn note_arc(sides: &mut [ByRole<Option<u32>>], role: Role, target: Option<Target>, place: u32)
+fn note_arc(sides: &mut [ArcSides], role: Role, target: Option<Target>, place: u32)
     requires { HaveEntries sides.old (target ∷ []) }
     ensures long { length sides.new ≡ length sides.old }
     ensures each { (a : ℕ) (o : Roles) → is_plain o ≡ false → is_some (side_at sides.new a o)
@@ -105,7 +106,7 @@ fn note_arc(sides: &mut [ByRole<Option<u32>>], role: Role, target: Option<Target
 }
 
 /// Notes that the link at a place names these arcs.
-fn note_arcs(sides: &mut [ByRole<Option<u32>>], role: Role, targets: &[Option<Target>], place: u32)
+fn note_arcs(sides: &mut [ArcSides], role: Role, targets: &[Option<Target>], place: u32)
     requires { HaveEntries sides.old targets.now }
     ensures long { length sides.new ≡ length sides.old }
     ensures each { (a : ℕ) (o : Roles) → is_plain o ≡ false → is_some (side_at sides.new a o)

@@ -1,6 +1,7 @@
 ghost use Rattle.std.specs.Prelude.{◌≡◌, ◌≢◌, ◌↔◌, ◌<◌, ◌≤◌, length, Some, OnOk, IfOk, IfErr, MatchOption, option_copied, ℕ};
 ghost use Rattle.edi_line.specs.Refusal.{IsUnbroken};
 
+use crate::arc_sides::ArcSides;
 use crate::fault::{RefFault, Unplanned};
 use crate::places::Places;
 use crate::planned::RecordList;
@@ -9,7 +10,7 @@ use crate::records::plan_records;
 use crate::references::References;
 use edi_line::{Sequence, Text};
 use edi_record::{Extra, Kind, Point, Sheet};
-use edi_schema::{ByRole, ClassRef, Role, Schema};
+use edi_schema::{ClassRef, Role, Schema};
 use std::alloc::Global;
 use std::marker::Model;
 
@@ -17,7 +18,7 @@ use std::marker::Model;
 pub struct Plan {
     cse: Option<Text>,
     list: RecordList,
-    sides: Sequence<ByRole<Option<u32>>>,
+    sides: Sequence<ArcSides>,
     places: Places,
 }
 

@@ -15,6 +15,7 @@ ghost use Rattle.edi_plan.specs.inner.Resolving.{is_elsewhere, leaves, reference
 ghost use Rattle.edi_plan.specs.inner.SideTable.{link_join, HaveEntries, IsNoted};
 ghost use Rattle.edi_plan.specs.inner.RecordLists.{plan_records_of};
 
+use crate::arc_sides::ArcSides;
 use crate::earlier_links::earlier_link;
 use crate::fault::{RefFault, Unplanned, Unresolved};
 use crate::link_findings::link_role;
@@ -26,7 +27,7 @@ use crate::spare_parts::SpareParts;
 use crate::targets::Target;
 use edi_line::{Num, Text};
 use edi_record::{Attribute, End, Extra, Name, RecordRef, SheetRecords, Value};
-use edi_schema::{ByRole, ClassFinder, ClassRef, Schema};
+use edi_schema::{ClassFinder, ClassRef, Schema};
 use std::alloc::{AllocError, Global};
 
 /// A number where the text may be one and is one, and its bytes elsewhere.
@@ -199,7 +200,7 @@ fn plan_record<'a>(
     schema: &Schema,
     subset: &Option<Subset>,
     targets: &[Option<Target>],
-    sides: &mut [ByRole<Option<u32>>],
+    sides: &mut [ArcSides],
     class: Option<ClassRef>,
     classes: &mut ClassFinder<'_>,
     record: &RecordRef<'a>,
@@ -270,7 +271,7 @@ fn broken(rule: u16, place: usize, earlier: Option<u64>) -> Unplanned
 #[derive(Drop)]
 pub(crate) struct Planned {
     pub(crate) list: RecordList,
-    pub(crate) sides: Vec<ByRole<Option<u32>>>,
+    pub(crate) sides: Vec<ArcSides>,
 }
 
 /// The records in the plan; or the first that breaks a rule of references, and the least rule there, of 307 with the

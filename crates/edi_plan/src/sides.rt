@@ -8,10 +8,11 @@ ghost use Rattle.edi_plan.specs.inner.Resolving.{IsUnresolved};
 ghost use Rattle.edi_schema.specs.ByRole.{no_values};
 ghost use Rattle.edi_plan.specs.inner.SideTable.{side_at, join_in, join_of_two, link_join, link_tests, HaveEntries, IsNoted};
 
+use crate::arc_sides::ArcSides;
 use crate::fault::Unresolved;
 use crate::targets::Target;
 use edi_record::Kind;
-use edi_schema::{ByRole, Role};
+use edi_schema::Role;
 use std::alloc::{AllocError, Global};
 
 /// The arc of a link, and the node or the face that it joins with it.
@@ -25,10 +26,10 @@ pub(crate) struct Join {
 pub(crate) fn without_links(
     alloc: Global,
     len: usize,
-) -> Result<Vec<ByRole<Option<u32>>>, AllocError>
+) -> Result<Vec<ArcSides>, AllocError>
     ensures { IfOk result (λ table. table.items ≡ replicate len no_values) }
 {
-    Ok(vec![in alloc; ByRole::none(); len]?)
+    Ok(vec![in alloc; ArcSides::none(); len]?)
 }
 
 /// What a link of one of the four kinds joins with an arc.
@@ -71,7 +72,7 @@ pub(crate) fn join_of(kind: Kind, targets: &[Option<Target>]) -> Option<Join>
 }
 
 /// Notes what the arc has by a role, if it has nothing by it.
-fn note(sides: &mut [ByRole<Option<u32>>], role: Role, join: Join) -> bool
+fn note(sides: &mut [ArcSides], role: Role, join: Join) -> bool
     requires { join.arc < length sides.old }
     ensures is_new { IsTrue result ↔ (side_at sides.old join.arc role ≡ None) }
     ensures noted { IsTrue result → IsNoted sides.old role (Some join) sides.new }
@@ -86,7 +87,7 @@ fn note(sides: &mut [ByRole<Option<u32>>], role: Role, join: Join) -> bool
 
 /// Notes what a link of a role joins, or the least of the rules 306 and 307 that it breaks.
 pub(crate) fn note_link(
-    sides: &mut [ByRole<Option<u32>>],
+    sides: &mut [ArcSides],
     role: Role,
     targets: &[Option<Target>],
 ) -> Result<(), Unresolved>

@@ -3,3 +3,4 @@ pub mod ArcSides
 pub mod PlacedLinks
 pub mod Layers
 pub mod Pieces
+pub mod SparseLists

@@ -12,7 +12,7 @@ ghost use Rattle.edi_rank.specs.Pieces.{object_count};
 use crate::ends::{numbered_end, other_ends};
 use crate::keys::NumberedEnd;
 use crate::object_layer::is_object;
-use edi_line::Sequence;
+use crate::sparse_list::SparseList;
 use edi_plan::{Plan, PlanEnd};
 use std::alloc::{AllocError, Global};
 
@@ -54,7 +54,7 @@ fn positions_of_many(
     plan: &Plan,
     numbers: &[u32],
     ends: &[PlanEnd],
-) -> Result<Sequence<usize>, AllocError>
+) -> Result<SparseList<usize>, AllocError>
     requires places { AllByRecursion (λ e. IsPlace plan.now e.target) ends.now }
     requires numbers { length numbers.now ≡ length plan.now.list }
     requires many { 2 ≤ length ends.now }
@@ -63,7 +63,7 @@ fn positions_of_many(
     let mut pairs = placed_ends(alloc, plan, numbers, ends)?;
     pairs.sort_unstable();
     let positions = positions_in(alloc, &pairs)?;
-    Ok(Sequence::from_vec(positions))
+    SparseList::from_vec(alloc, positions)
 }
 
 /// The positions of these ends in their order; none where there is one end at most.
@@ -72,13 +72,13 @@ fn sorted_positions(
     plan: &Plan,
     numbers: &[u32],
     ends: &[PlanEnd],
-) -> Result<Sequence<usize>, AllocError>
+) -> Result<SparseList<usize>, AllocError>
     requires places { AllByRecursion (λ e. IsPlace plan.now e.target) ends.now }
     requires numbers { length numbers.now ≡ length plan.now.list }
     ensures { IfOk result (λ positions. PutsInOrder plan.now (slice_index numbers.now) positions ends.now) }
 {
     if ends.len() < 2 {
-        return Ok(Sequence::from_vec(Vec::new(alloc)));
+        return Ok(SparseList::new());
     }
     positions_of_many(alloc, plan, numbers, ends)
 }
@@ -111,25 +111,25 @@ fn lower_positions(
     plan: &Plan,
     numbers: &[u32],
     ends: &[PlanEnd],
-) -> Result<Sequence<usize>, AllocError>
+) -> Result<SparseList<usize>, AllocError>
     requires places { AllByRecursion (λ e. IsPlace plan.now e.target) ends.now }
     requires numbers { length numbers.now ≡ length plan.now.list }
     ensures { IfOk result (λ positions. object_count plan.now ends.now ≤ 1
         → PutsInOrder plan.now (slice_index numbers.now) positions ends.now) }
 {
     if has_two_objects(plan, ends) {
-        return Ok(Sequence::from_vec(Vec::new(alloc)));
+        return Ok(SparseList::new());
     }
     sorted_positions(alloc, plan, numbers, ends)
 }
 
 /// The positions of the other ends of each record in their order, by place, where at most one of these ends is an
 /// object, and the nodes, arcs and faces have these numbers; none where two or more are objects.
-pub fn lower_orders(
+pub(crate) fn lower_orders(
     alloc: Global,
     plan: &Plan,
     numbers: &[u32],
-) -> Result<Vec<Sequence<usize>>, AllocError>
+) -> Result<Vec<SparseList<usize>>, AllocError>
     requires { length numbers.now ≡ length plan.now.list }
     ensures length { IfOk result (λ orders. length orders.items ≡ length plan.now.list) }
     ensures orders { IfOk result (λ orders. (k : ℕ) → IsPlace plan.now k
@@ -151,8 +151,8 @@ pub(crate) fn all_orders(
     alloc: Global,
     plan: &Plan,
     numbers: &[u32],
-    lower: Vec<Sequence<usize>>,
-) -> Result<Vec<Sequence<usize>>, AllocError>
+    lower: Vec<SparseList<usize>>,
+) -> Result<Vec<SparseList<usize>>, AllocError>
     requires numbers { length numbers.now ≡ length plan.now.list }
     requires length { length lower.items ≡ length plan.now.list }
     requires lower { (k : ℕ) → IsPlace plan.now k → object_count plan.now (others_of (record_at plan.now k)) ≤ 1

@@ -22,6 +22,7 @@ use crate::forward::turned_arcs;
 use crate::link_layer::LinkLayer;
 use crate::numbering::{lower_numbers, number_kind, places_by_number};
 use crate::object_layer::ObjectLayer;
+use crate::sparse_list::SparseList;
 use edi_line::Sequence;
 use edi_plan::Plan;
 use edi_record::Kind;
@@ -34,7 +35,7 @@ use std::marker::Model;
 pub struct Labels {
     numbers: Sequence<u32>,
     turned: Sequence<bool>,
-    others: Sequence<Sequence<usize>>,
+    others: Sequence<SparseList<usize>>,
     nodes: Sequence<u32>,
     arcs: Sequence<u32>,
     faces: Sequence<u32>,
@@ -266,7 +267,7 @@ fn object_ranks(alloc: Global, sound: &Sound, layer: &ObjectLayer<'_>) -> Result
 struct BelowLinks {
     objects: Ranks,
     numbers: Vec<u32>,
-    others: Vec<Sequence<usize>>,
+    others: Vec<SparseList<usize>>,
 }
 
 /// Numbers the objects and puts other ends in order, where the nodes, arcs and faces have these numbers, by place, and
@@ -310,7 +311,7 @@ fn link_ranks(
     plan: &Plan,
     turned: &[bool],
     numbers: &[u32],
-    orders: &[Sequence<usize>],
+    orders: &[SparseList<usize>],
 ) -> Result<Ranks, AllocError>
     requires agrees { Agrees schema.now plan.now }
     requires turned { length turned.now ≡ length plan.now.list }

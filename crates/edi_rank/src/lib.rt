@@ -1,7 +1,7 @@
 //! Directions, keys and numbers of records.
 #![tactic(auto)]
 
-pub mod end_orders;
+mod end_orders;
 pub mod ends;
 pub mod face_layer;
 pub mod fault;
@@ -15,9 +15,9 @@ mod numbering;
 pub mod object_layer;
 mod placed_link;
 pub mod repeated;
+mod sparse_list;
 
 pub use edi_topo::{ArcLayer, Layer, NodeLayer, Ranks, TieFault, is_forward, ranks};
-pub use end_orders::lower_orders;
 pub use ends::{end_in_order, numbered_end};
 pub use face_layer::FaceLayer;
 pub use fault::RankFault;

@@ -10,7 +10,7 @@ ghost use Rattle.edi_rank.specs.inner.Layers.{placed_link_key};
 
 use crate::link_key::{class_turned, is_bare, link_key_at, plain_pair};
 use crate::placed_link::PlacedLink;
-use edi_line::Sequence;
+use crate::sparse_list::SparseList;
 use edi_plan::Plan;
 use edi_record::Kind;
 use edi_schema::Schema;
@@ -25,7 +25,7 @@ pub(crate) struct LinkLayer<'a> {
     schema: &'a Schema,
     turned: &'a [bool],
     numbers: &'a [u32],
-    orders: &'a [Sequence<usize>],
+    orders: &'a [SparseList<usize>],
     places: &'a [u32],
 }
 
@@ -61,7 +61,7 @@ impl<'a> LinkLayer<'a> {
         plan: &'a Plan,
         turned: &'a [bool],
         numbers: &'a [u32],
-        orders: &'a [Sequence<usize>],
+        orders: &'a [SparseList<usize>],
     ) -> LinkLayer<'a>
         requires agrees { Agrees schema.now plan.now }
         requires turned { length turned.now ≡ length plan.now.list }

@@ -16,6 +16,7 @@ use crate::end_orders::lower_orders;
 use crate::keys::{LinkKey, ObjectKey};
 use crate::link_key::link_key_at;
 use crate::numbering::lower_numbers;
+use crate::sparse_list::SparseList;
 use edi_line::{BorrowedList, ListOfBorrowed, Sequence};
 use edi_plan::{Plan, PlanEnd, sorted_attributes};
 use edi_record::Kind;
@@ -27,9 +28,9 @@ use std::marker::Model;
 pub struct ObjectLayer<'a> {
     plan: &'a Plan,
     numbers: Vec<u32>,
-    orders: Vec<Sequence<usize>>,
+    orders: Vec<SparseList<usize>>,
     places: &'a [u32],
-    links: Vec<Vec<u32>>,
+    links: Vec<SparseList<u32>>,
 }
 
 impl Drop for ObjectLayer<'_> {
@@ -62,7 +63,7 @@ impl<'a> Model for ObjectLayer<'a> {
         × ((k : ℕ) → IsPlace l.plan.now k → is_object (record_at l.plan.now k).kind ≡ true
         → slice_index_or l.numbers.items k 0 ≡ 0)
         × ((k : ℕ) → IsPlace l.plan.now k → is_object (record_at l.plan.now k).kind ≡ true
-        → slice_index_or (map (λ v. v.items) l.links.items) k [] ≡ piece_places l.plan.now k)
+        → slice_index_or l.links.items k [] ≡ piece_places l.plan.now k)
         × (length l.orders.items ≡ length l.plan.now.list)
         × ((k : ℕ) → IsPlace l.plan.now k → object_count l.plan.now (others_of (record_at l.plan.now k)) ≤ 1
         → OthersInOrder l.plan.now (slice_index l.numbers.items) l.orders.items k) };
@@ -114,7 +115,7 @@ impl<'a> ObjectLayer<'a> {
         alloc: Global,
         plan: &'a Plan,
         numbers: Vec<u32>,
-        orders: Vec<Sequence<usize>>,
+        orders: Vec<SparseList<usize>>,
     ) -> Result<ObjectLayer<'a>, AllocError>
         requires numbers { length numbers.items ≡ length plan.now.list }
         requires objects { (k : ℕ) → IsPlace plan.now k → is_object_kind (record_at plan.now k).kind ≡ true
@@ -135,7 +136,7 @@ impl<'a> ObjectLayer<'a> {
     }
 
     /// The numbers by place, and the positions of the other ends of each record in their order.
-    pub(crate) fn into_parts(self) -> (Vec<u32>, Vec<Sequence<usize>>)
+    pub(crate) fn into_parts(self) -> (Vec<u32>, Vec<SparseList<usize>>)
         ensures numbers { result.0.items ≡ self.entry.numbers }
         ensures ordered { length result.1.items ≡ length self.entry.plan.list }
         ensures orders { (k : ℕ) → IsPlace self.entry.plan k
@@ -176,8 +177,8 @@ impl<'a> Layer for ObjectLayer<'a> {
     fn key(&self, alloc: Global, member: u32) -> Result<ObjectKey<'a>, AllocError> {
         let place = self.place(member);
         let attributes = sorted_attributes(alloc, self.plan.attributes(place))?;
-        let links: &[Vec<u32>] = &self.links;
-        let own: &[u32] = &links[place as usize];
+        let links: &[SparseList<u32>] = &self.links;
+        let own = links[place as usize].as_slice();
         let pieces = sorted_pieces(alloc, self.plan, &self.numbers, &self.orders, own)?;
         Ok(ObjectKey {
             class: self.plan.scp(place),
@@ -231,29 +232,29 @@ fn owner(plan: &Plan, place: u32) -> Option<u32>
 }
 
 /// The links that are pieces of each object, by its place.
-fn links_by_object(alloc: Global, plan: &Plan) -> Result<Vec<Vec<u32>>, AllocError>
+fn links_by_object(alloc: Global, plan: &Plan) -> Result<Vec<SparseList<u32>>, AllocError>
     ensures length { IfOk result (λ links. length links.items ≡ length plan.now.list) }
     ensures links { IfOk result (λ links. (k : ℕ) → IsPlace plan.now k
         → is_object_kind (record_at plan.now k).kind ≡ true
-        → slice_index_or (map (λ v. v.items) links.items) k [] ≡ piece_places plan.now k) }
+        → slice_index_or links.items k [] ≡ piece_places plan.now k) }
 {
     let mut links = no_links(alloc, plan.len())?;
     for place in 0..plan.len() {
         if let Some(object) = owner(plan, place) {
-            links[object as usize].push(place)?;
+            links[object as usize].push(alloc, place)?;
         }
     }
     Ok(links)
 }
 
 /// So many empty lists.
-fn no_links(alloc: Global, count: u32) -> Result<Vec<Vec<u32>>, AllocError>
+fn no_links(alloc: Global, count: u32) -> Result<Vec<SparseList<u32>>, AllocError>
     ensures length { IfOk result (λ links. length links.items ≡ count) }
-    ensures empty { IfOk result (λ links. All (λ v. v.items ≡ []) links.items) }
+    ensures empty { IfOk result (λ links. All (λ list. list ≡ []) links.items) }
 {
     let mut links = Vec::with_capacity(alloc, count as usize)?;
     for _ in 0..count {
-        links.push(Vec::new(alloc))?;
+        links.push(SparseList::new())?;
     }
     Ok(links)
 }
@@ -263,7 +264,7 @@ fn sorted_pieces<'a>(
     alloc: Global,
     plan: &'a Plan,
     numbers: &[u32],
-    orders: &[Sequence<usize>],
+    orders: &[SparseList<usize>],
     links: &[u32],
 ) -> Result<Vec<LinkKey<'a>>, AllocError>
     requires links { AllByRecursion (IsPlace plan.now) links.now }

@@ -14,6 +14,19 @@ use Rattle.edi_schema.specs.declared.by_role.ByRole.{ByRole}
 use Rattle.edi_plan.specs.declared.sides.Join.{Join}
 use Rattle.edi_plan.specs.declared.targets.Target.{Target}
 
+-- a place, where one is there
+abbrev pub place_if : Bool → ℕ → Option ℕ
+place_if there place = if there then Some place else None
+
+-- those of these places that are there
+abbrev pub sides_there : ByRole ℕ → ByRole Bool → ByRole (Option ℕ)
+sides_there places there = record {
+  initial = place_if there.initial places.initial;
+  final_node = place_if there.final_node places.final_node;
+  left = place_if there.left places.left;
+  right = place_if there.right places.right;
+}
+
 -- what the table has for the record at a place
 abbrev pub side_at : List (ByRole (Option ℕ)) → ℕ → Role → Option ℕ
 side_at table place role = of_role (slice_index_or table place no_values) role
