@@ -3,7 +3,7 @@
 use crate::case::Case;
 use crate::refusals::{push_lines_fault, push_records_fault};
 use crate::text::push_bytes;
-use edi_line::zones;
+use edi_line::{Text, zones};
 use edi_record::{
     Attribute, End, Extra, Kind, Name, Point, RecordRef, SheetFault, SheetRecords, Value,
     read_sheet, records,
@@ -80,9 +80,13 @@ fn type_text(kind: Kind) -> &'static str {
 }
 
 fn push_name(text: &mut String, name: &Name) -> Result<(), AllocError> {
-    push_bytes(text, name.rty.as_slice())?;
+    push_name_of(text, &name.rty, &name.rid)
+}
+
+fn push_name_of(text: &mut String, rty: &Text, rid: &Text) -> Result<(), AllocError> {
+    push_bytes(text, rty.as_slice())?;
     text.push_str(";")?;
-    push_bytes(text, name.rid.as_slice())
+    push_bytes(text, rid.as_slice())
 }
 
 fn push_points(points: &[Point], text: &mut String) -> Result<(), AllocError> {
@@ -104,12 +108,12 @@ fn push_points(points: &[Point], text: &mut String) -> Result<(), AllocError> {
 fn push_ends(ends: &[End], text: &mut String) -> Result<(), AllocError> {
     for end in ends {
         text.push_str("  end ")?;
-        push_bytes(text, end.lot.as_slice())?;
+        push_bytes(text, end.lot().as_slice())?;
         text.push_str(";")?;
-        push_bytes(text, end.subset.as_slice())?;
+        push_bytes(text, end.subset().as_slice())?;
         text.push_str(";")?;
-        push_name(text, &end.target)?;
-        if let Some(sns) = &end.sns {
+        push_name_of(text, end.rty(), end.rid())?;
+        if let Some(sns) = end.sns() {
             text.push_str(" with ")?;
             push_bytes(text, sns.as_slice())?;
         }

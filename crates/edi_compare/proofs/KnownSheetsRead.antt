@@ -15,7 +15,7 @@ use Rattle.edi_record.specs.RecordRules.{BreaksRecordRule}
 use Rattle.edi_record.specs.Shapes.{kind_code}
 use Rattle.edi_record.specs.declared.name.Name.{Name}
 use Rattle.edi_record.specs.declared.record.Attribute.{Attribute}
-use Rattle.edi_record.specs.declared.record.End.{End}
+use Rattle.edi_record.specs.LinkEnds.{EndData}
 use Rattle.edi_record.specs.declared.record.Extra.{Extra}
 use Rattle.edi_record.specs.declared.record.Kind.{Kind}
 use Rattle.edi_record.specs.declared.record.Point.{Point}
@@ -63,7 +63,7 @@ pub record Parts : Type 0 where
   pub rid : List (List ℕ)
   pub scp : List (Option Name)
   pub points : List (Option Point)
-  pub ends : List (Option End)
+  pub ends : List (Option EndData)
   pub attributes : List (Option Attribute)
   pub extras : List Extra
 
@@ -166,7 +166,7 @@ resolved s list r = record {
   points = r.points;
   attributes = (length r.attributes, 0);
   extras = r.extras;
-  ends = map (λ (e : End). (place_named list e.target, e.sns)) r.ends;
+  ends = map (λ (e : EndData). (place_named list e.target, e.sns)) r.ends;
 }
 
 abbrev pub planned : PlanRecord → PlanParts
@@ -193,10 +193,10 @@ record_planned s list r p e = record {
   points = sym (ap (λ (x : PlanParts). x.points) e);
   attributes = none_zipped (StatesPlanAttribute s) r.attributes p.attributes (ap (λ (x : PlanParts). x.attributes.0) e) (ap (λ (x : PlanParts). x.attributes.1) e);
   extras = sym (ap (λ (x : PlanParts). x.extras) e);
-  ends = zip_of_maps (StatesPlanEnd list) (λ (d : End). (place_named list d.target, d.sns)) (λ (d : PlanEnd). (Some d.target, d.sns)) end_planned r.ends p.ends (ap (λ (x : PlanParts). x.ends) e);
+  ends = zip_of_maps (StatesPlanEnd list) (λ (d : EndData). (place_named list d.target, d.sns)) (λ (d : PlanEnd). (Some d.target, d.sns)) end_planned r.ends p.ends (ap (λ (x : PlanParts). x.ends) e);
 }
   where
-    end_planned : (d : End) (t : PlanEnd) → ◌≡◌ {A = Option ℕ × Option (List ℕ)} (place_named list d.target, d.sns) (Some t.target, t.sns) → StatesPlanEnd list d t
+    end_planned : (d : EndData) (t : PlanEnd) → ◌≡◌ {A = Option ℕ × Option (List ℕ)} (place_named list d.target, d.sns) (Some t.target, t.sns) → StatesPlanEnd list d t
     end_planned d t same = record { target = ap (λ (x : Option ℕ × Option (List ℕ)). x.0) same; sns = sym (ap (λ (x : Option ℕ × Option (List ℕ)). x.1) same) }
 
 pub plan_as : (s : Classes) (bytes : List ℕ) (sheet : Sheet) (p : PlanData) → IsSheetOf bytes sheet → p.cse ≡ sheet.cse → map (resolved s sheet.list) sheet.list ≡ map planned p.list → IsPlanOfFile s bytes p

@@ -7,7 +7,7 @@ use Rattle.std.proofs.lemmas.Option.{same_Some}
 use Rattle.std.proofs.lemmas.Slice.Eq.{bytes_eq-Decides}
 use Rattle.edi_line.specs.Refusal.{IsUnbroken}
 use Rattle.edi_record.specs.declared.name.Name.{Name}
-use Rattle.edi_record.specs.declared.record.End.{End}
+use Rattle.edi_record.specs.LinkEnds.{EndData}
 use Rattle.edi_record.specs.declared.record.Kind.{Kind}
 use Rattle.edi_record.specs.declared.record.Kind.TheVariants.{Pno, Par, Pfe, Lnk}
 use Rattle.edi_record.specs.declared.record.Record.{Record}
@@ -56,15 +56,15 @@ same_name a b e = both_and (bytes_eq a.rty b.rty) (bytes_eq a.rid b.rid)
 
 module _ (s : Classes) (list : List Record) where
   -- the type of what an end names
-  abbrev end_kind : End → Option Kind
+  abbrev end_kind : EndData → Option Kind
   end_kind e = option_and_then (λ place. option_map (λ (r : Record). r.kind) (slice_get list place)) (place_named list e.target)
 
-  names_kind : (e : End) (place : ℕ) (kind : Kind) → Names s list e place kind → end_kind e ≡ Some kind
+  names_kind : (e : EndData) (place : ℕ) (kind : Kind) → Names s list e place kind → end_kind e ≡ Some kind
   names_kind e place kind h =
       ap (option_and_then (λ place. option_map (λ (r : Record). r.kind) (slice_get list place))) h.1
       ∙ (ap (option_map (λ (r : Record). r.kind)) h.2 ∙ ap Some h.3)
 
-  kind_names : (e : End) (kind : Kind) → end_kind e ≡ Some kind → (place : ℕ) × Names s list e place kind
+  kind_names : (e : EndData) (kind : Kind) → end_kind e ≡ Some kind → (place : ℕ) × Names s list e place kind
   kind_names e kind h = go (place_named list e.target) refl h
     where
       at : (place : ℕ) → place_named list e.target ≡ Some place → (o : Option Record) → slice_get list place ≡ o → option_map (λ (r : Record). r.kind) o ≡ Some kind
@@ -82,10 +82,10 @@ module _ (s : Classes) (list : List Record) where
   is_target (Some kind) = not (is_link kind)
   is_target None = false
 
-  abbrev is_lost : End → Bool
+  abbrev is_lost : EndData → Bool
   is_lost e = not (is_target (end_kind e))
 
-  lost : (e : End) → ((place : ℕ) (kind : Kind) → Names s list e place kind → kind ≡ Lnk) → is_lost e ≡ true
+  lost : (e : EndData) → ((place : ℕ) (kind : Kind) → Names s list e place kind → kind ≡ Lnk) → is_lost e ≡ true
   lost e only = go (end_kind e) refl
     where
       go : (o : Option Kind) → end_kind e ≡ o → not (is_target o) ≡ true
@@ -98,17 +98,17 @@ module _ (s : Classes) (list : List Record) where
   is_some_kind kind (Some k) = same_kind k kind
   is_some_kind kind None = false
 
-  of_kind : (kind : Kind) (e : End) → is_some_kind kind (end_kind e) ≡ true → (place : ℕ) × Names s list e place kind
+  of_kind : (kind : Kind) (e : EndData) → is_some_kind kind (end_kind e) ≡ true → (place : ℕ) × Names s list e place kind
   of_kind kind e h = go (end_kind e) refl h
     where
       go : (o : Option Kind) → end_kind e ≡ o → is_some_kind kind o ≡ true → (place : ℕ) × Names s list e place kind
       go None is h = cc
       go (Some k) is h = kind_names e kind (is ∙ ap Some (one_kind k kind (eqb-true (kind_rank k) (kind_rank kind) h)))
 
-  abbrev is_join : Kind → End → End → Bool
+  abbrev is_join : Kind → EndData → EndData → Bool
   is_join kind d e = is_some_kind Par (end_kind d) && is_some_kind kind (end_kind e)
 
-  abbrev joins : Kind → List End → Bool
+  abbrev joins : Kind → List EndData → Bool
   joins kind [] = false
   joins kind (d ∷ []) = false
   joins kind (d ∷ e ∷ []) = is_join kind d e || is_join kind e d
@@ -117,25 +117,25 @@ module _ (s : Classes) (list : List Record) where
   joined : (kind : Kind) (r : Record) → joins kind r.ends ≡ true → JoinsArcTo s list kind r
   joined kind r h = go r.ends refl h
     where
-      two : (d e : End) → ((r.ends ≡ d ∷ e ∷ []) ⊎ (r.ends ≡ e ∷ d ∷ [])) → is_join kind d e ≡ true → JoinsArcTo s list kind r
+      two : (d e : EndData) → ((r.ends ≡ d ∷ e ∷ []) ⊎ (r.ends ≡ e ∷ d ∷ [])) → is_join kind d e ≡ true → JoinsArcTo s list kind r
       two d e ends t =
           let kinds = both_true (is_some_kind Par (end_kind d)) (is_some_kind kind (end_kind e)) t in
           let arc = of_kind Par d kinds.0 in
           let other = of_kind kind e kinds.1 in
           (d, e, arc.0, other.0, ends, arc.1, other.1)
 
-      pick : (d e : End) → r.ends ≡ d ∷ e ∷ [] → (b c : Bool) → is_join kind d e ≡ b → is_join kind e d ≡ c → b || c ≡ true → JoinsArcTo s list kind r
+      pick : (d e : EndData) → r.ends ≡ d ∷ e ∷ [] → (b c : Bool) → is_join kind d e ≡ b → is_join kind e d ≡ c → b || c ≡ true → JoinsArcTo s list kind r
       pick d e ends true c first second t = two d e (inl ends) first
       pick d e ends false true first second t = two e d (inr ends) second
       pick d e ends false false first second t = absurd (true≢false (sym t))
 
-      go : (ends : List End) → r.ends ≡ ends → joins kind ends ≡ true → JoinsArcTo s list kind r
+      go : (ends : List EndData) → r.ends ≡ ends → joins kind ends ≡ true → JoinsArcTo s list kind r
       go [] is t = absurd (true≢false (sym t))
       go (d ∷ []) is t = absurd (true≢false (sym t))
       go (d ∷ e ∷ f ∷ ends) is t = absurd (true≢false (sym t))
       go (d ∷ e ∷ []) is t = pick d e is (is_join kind d e) (is_join kind e d) refl refl t
 
-  abbrev joins_by : Option Role → List End → Bool
+  abbrev joins_by : Option Role → List EndData → Bool
   joins_by None ends = true
   joins_by (Some Initial) ends = joins Pno ends
   joins_by (Some Final) ends = joins Pno ends
@@ -200,11 +200,11 @@ module _ (s : Classes) (list : List Record) where
       let one = first.0 in
       pair_true test list (m - 1) (n - 1) q r pairs (omega (arith, less, one)) first.1 second.1
 
-  subset : (r : Record) (d : End) (others : List End) → Rattle.std.proofs.Common.flat_map (λ (q : Record). q.ends) list ≡ d ∷ others
+  subset : (r : Record) (d : EndData) (others : List EndData) → Rattle.std.proofs.Common.flat_map (λ (q : Record). q.ends) list ≡ d ∷ others
       → Any (λ x. (x.lot ≢ d.lot) ⊎ (x.subset ≢ d.subset)) r.ends → leaves (first_subset list) r.ends ≡ true
   subset r d others is some =
-      ap (λ xs. leaves (option_map (λ (x : End). record { lot = x.lot; subset = x.subset }) (first_of xs)) r.ends) is
-      ∙ any_true (λ (x : End). (x.lot ≢ d.lot) ⊎ (x.subset ≢ d.subset)) (is_elsewhere (record { lot = d.lot; subset = d.subset })) (elsewhere_true d) r.ends some
+      ap (λ xs. leaves (option_map (λ (x : EndData). record { lot = x.lot; subset = x.subset }) (first_of xs)) r.ends) is
+      ∙ any_true (λ (x : EndData). (x.lot ≢ d.lot) ⊎ (x.subset ≢ d.subset)) (is_elsewhere (record { lot = d.lot; subset = d.subset })) (elsewhere_true d) r.ends some
 
   wrong_join : (r : Record) → joins_right r ≡ true → ((IsLinkOfRole s list r Initial ⊎ IsLinkOfRole s list r Final) × ¬ (JoinsArcTo s list Pno r))
       ⊎ ((IsLinkOfRole s list r Left ⊎ IsLinkOfRole s list r Right) × ¬ (JoinsArcTo s list Pfe r)) → ⊥

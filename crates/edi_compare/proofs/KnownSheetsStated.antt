@@ -8,7 +8,7 @@ use Rattle.edi_line.specs.inner.Spelling.{reading_of, has_head}
 use Rattle.edi_line.specs.inner.Zones.{readings_of}
 use Rattle.edi_line.proofs.ZonesFound.{zones_of}
 use Rattle.edi_line.proofs.KnownFiles.{first_fault}
-use Rattle.edi_record.specs.declared.record.End.{End}
+use Rattle.edi_record.specs.LinkEnds.{EndData}
 use Rattle.edi_record.specs.declared.record.Kind.{Kind}
 use Rattle.edi_record.specs.declared.record.Kind.TheVariants.{Pno, Par, Pfe, Fea, Lnk}
 use Rattle.edi_record.specs.declared.record.Point.{Point}
@@ -26,10 +26,10 @@ use Rattle.edi_compare.proofs.Phases.{one_plan}
 abbrev pub plain_record : Kind → List ℕ → List ℕ → List ℕ → List Point → Record
 plain_record kind rid rty class points = record { kind = kind; rid = rid; scp = record { rty = rty; rid = class }; points = points; ends = []; attributes = []; extras = [] }
 
-abbrev to_end : List ℕ → List ℕ → End
+abbrev to_end : List ℕ → List ℕ → EndData
 to_end rty rid = record { lot = []; subset = []; target = record { rty = rty; rid = rid }; sns = None }
 
-abbrev link_record : List ℕ → List ℕ → End → End → Record
+abbrev link_record : List ℕ → List ℕ → EndData → EndData → Record
 link_record rid class d e = record { kind = Lnk; rid = rid; scp = record { rty = codes "REL"; rid = class }; points = []; ends = d ∷ e ∷ []; attributes = []; extras = [] }
 
 abbrev arc_records : List ℕ → List ℕ → List Record

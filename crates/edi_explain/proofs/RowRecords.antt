@@ -9,7 +9,7 @@ use Rattle.edi_line.specs.Made.{AreMadeFrom}
 use Rattle.edi_record.specs.Records.{IsEndAt, States, first, is_link, points_at, values}
 use Rattle.edi_record.specs.Shapes.{kind_code}
 use Rattle.edi_record.specs.declared.name.Name.{Name}
-use Rattle.edi_record.specs.declared.record.End.{End}
+use Rattle.edi_record.specs.LinkEnds.{EndData}
 use Rattle.edi_record.specs.declared.record.Kind.{Kind}
 use Rattle.edi_record.specs.declared.record.Kind.TheVariants.{Lnk}
 use Rattle.edi_record.specs.declared.record.Record.{Record}
@@ -38,7 +38,7 @@ one_name g name r n h =
     λ i. record { rty = rty i; rid = rid i }
 
 -- the ends of these zones
-ends_there : (front zs : List ZoneData) (items : List End) → AreMadeFrom (λ f z. points_at z ≡ true) IsEndAt front zs items → 0 < length items
+ends_there : (front zs : List ZoneData) (items : List EndData) → AreMadeFrom (λ f z. points_at z ≡ true) IsEndAt front zs items → 0 < length items
     → (text : List ℕ) × (first (values (codes "FTP") zs) ≡ Some text)
 ends_there front [] items h some = absurd (omega (arith, ap length h, some))
 ends_there front (z ∷ zs) items (inl h) some = (z.value, ap (λ (b : Bool). first (map (λ (x : ZoneData). x.value) (cond b (z ∷ filter (has_code (codes "FTP")) zs) (filter (has_code (codes "FTP")) zs)))) h.2)
@@ -50,7 +50,7 @@ ends_there front (z ∷ zs) items (inr h) some =
     skipped text true e not is = absurd (not e)
     skipped text false e not is = ap (λ (b : Bool). first (map (λ (x : ZoneData). x.value) (cond b (z ∷ filter (has_code (codes "FTP")) zs) (filter (has_code (codes "FTP")) zs)))) e ∙ is
 
-there_ends : (front zs : List ZoneData) (items : List End) (text : List ℕ) → first (values (codes "FTP") zs) ≡ Some text
+there_ends : (front zs : List ZoneData) (items : List EndData) (text : List ℕ) → first (values (codes "FTP") zs) ≡ Some text
     → AreMadeFrom (λ f z. points_at z ≡ true) IsEndAt front zs items → 0 < length items
 there_ends front [] items text e h = absurd cc
 there_ends front (z ∷ zs) items text e (inl h) = omega (arith, ap length h.4)

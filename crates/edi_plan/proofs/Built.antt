@@ -19,7 +19,7 @@ use Rattle.edi_line.specs.Refusal.{IsUnbroken}
 use Rattle.edi_record.specs.Shapes.{may_have_points, may_have_ends, is_in_shape}
 use Rattle.edi_record.specs.declared.name.Name.{Name}
 use Rattle.edi_record.specs.declared.record.Record.{Record}
-use Rattle.edi_record.specs.declared.record.End.{End}
+use Rattle.edi_record.specs.LinkEnds.{EndData}
 use Rattle.edi_record.specs.declared.record.Kind.{Kind}
 use Rattle.edi_record.specs.declared.record.Kind.TheVariants.{Pno, Par, Pfe, Fea, Lnk}
 use Rattle.edi_record.specs.declared.sheet.Sheet.{Sheet}
@@ -177,7 +177,7 @@ one_attribute s a p q h g =
     let v = value_one (is_number_named s a.atp ≡ Some true) a.atv p.value q.value h.value g.value in
     λ i. record { atp = c i; tex = t i; value = v i }
 
-one_end : (list : List Record) (e : End) (p q : PlanEnd) → StatesPlanEnd list e p → StatesPlanEnd list e q → p ≡ q
+one_end : (list : List Record) (e : EndData) (p q : PlanEnd) → StatesPlanEnd list e p → StatesPlanEnd list e q → p ≡ q
 one_end list e p q h g =
     let t = same_Some p.target q.target (sym h.target ∙ g.target) in
     let n = h.sns ∙ sym g.sns in
@@ -214,7 +214,7 @@ module _ (s : Classes) (sheet : Sheet) (p : PlanData) (is : IsPlanOf s sheet p) 
   kind_there : (k : ℕ) (r : Record) → slice_get sheet.list k ≡ Some r → (record_at p k).kind ≡ r.kind
   kind_there k r h = (zip_back (StatesPlanRecord s sheet.list) sheet.list p.list is.each k r blank h).1.kind
 
-  place_there : (e : End) (k : ℕ) → place_named sheet.list e.target ≡ Some k → IsPlace p k
+  place_there : (e : EndData) (k : ℕ) → place_named sheet.list e.target ≡ Some k → IsPlace p k
   place_there e k h = omega (arith, (position_some _ sheet.list k h).1, long)
 
   record_there : (k : ℕ) → IsPlace p k → (r : Record) × (slice_get sheet.list k ≡ Some r)
@@ -248,12 +248,12 @@ module _ (s : Classes) (sheet : Sheet) (p : PlanData) (is : IsPlanOf s sheet p) 
         let place : suc k - 1 ≡ k = omega arith in
         each at.0.ends (record_at p k).ends at.2.ends (λ i d l is_d. λ only. hold 305 (suc k) (names_nothing refl (at.0, (omega arith, rw place at.1), any_at at.0.ends i d l is_d only)))
       where
-        any_at : (es : List End) (i : ℕ) (d : End) → i < length es → slice_get es i ≡ Some d → ((place : ℕ) (kind : Kind) → Names s sheet.list d place kind → kind ≡ Lnk)
+        any_at : (es : List EndData) (i : ℕ) (d : EndData) → i < length es → slice_get es i ≡ Some d → ((place : ℕ) (kind : Kind) → Names s sheet.list d place kind → kind ≡ Lnk)
             → Any (λ e. (place : ℕ) (kind : Kind) → Names s sheet.list e place kind → kind ≡ Lnk) es
         any_at es i d l is_d only = (i, d, l, get_or_from_slice_get es i d d is_d, only)
 
-        each : (ds : List End) (es : List PlanEnd) → AllZip (StatesPlanEnd sheet.list) ds es
-            → ((i : ℕ) (d : End) → i < length ds → slice_get ds i ≡ Some d → ((place : ℕ) (kind : Kind) → Names s sheet.list d place kind → kind ≡ Lnk) → ⊥)
+        each : (ds : List EndData) (es : List PlanEnd) → AllZip (StatesPlanEnd sheet.list) ds es
+            → ((i : ℕ) (d : EndData) → i < length ds → slice_get ds i ≡ Some d → ((place : ℕ) (kind : Kind) → Names s sheet.list d place kind → kind ≡ Lnk) → ⊥)
             → AllByRecursion (λ e. is_link (record_at p e.target).kind ≡ false) es
         each [] [] all none = tt
         each [] (e ∷ es) all none = absurd all
@@ -271,12 +271,12 @@ module _ (s : Classes) (sheet : Sheet) (p : PlanData) (is : IsPlanOf s sheet p) 
     joins_count : (kind : Kind) → is_arc kind ≡ false → (r : Record) (q : PlanRecord) → AllZip (StatesPlanEnd sheet.list) r.ends q.ends → JoinsArcTo s sheet.list kind r → count_by (λ e. is_arc (record_at p e.target).kind) q.ends ≤ 1
     joins_count kind other r q all joins = go joins.4
       where
-        arc_or : (e : End) (n : ℕ) (k : Kind) (x : PlanEnd) → Names s sheet.list e n k → StatesPlanEnd sheet.list e x → is_arc (record_at p x.target).kind ≡ is_arc k
+        arc_or : (e : EndData) (n : ℕ) (k : Kind) (x : PlanEnd) → Names s sheet.list e n k → StatesPlanEnd sheet.list e x → is_arc (record_at p x.target).kind ≡ is_arc k
         arc_or e n k x names st =
             let same : x.target ≡ n = same_Some x.target n (sym st.target ∙ names.1) in
             ap is_arc (ap (λ t. (record_at p t).kind) same ∙ (kind_there n names.0 names.2 ∙ names.3))
 
-        two : (d e : End) (es : List PlanEnd) → AllZip (StatesPlanEnd sheet.list) (d ∷ e ∷ []) es
+        two : (d e : EndData) (es : List PlanEnd) → AllZip (StatesPlanEnd sheet.list) (d ∷ e ∷ []) es
             → ((x : PlanEnd) → StatesPlanEnd sheet.list d x → (y : PlanEnd) → StatesPlanEnd sheet.list e y → cond (is_arc (record_at p x.target).kind) 1 0 + cond (is_arc (record_at p y.target).kind) 1 0 ≤ 1)
             → count_by (λ e. is_arc (record_at p e.target).kind) es ≤ 1
         two d e [] all few = absurd all

@@ -5,7 +5,7 @@ use Rattle.std.proofs.lemmas.Bool.{cases_lt}
 use Rattle.edi_line.specs.Refusal.{BreaksTest, IsLeastBroken}
 use Rattle.edi_line.specs.inner.Refusal.{first_broken}
 use Rattle.edi_line.proofs.FirstBroken.{none_broken, first_is_least}
-use Rattle.edi_record.specs.declared.record.End.{End}
+use Rattle.edi_record.specs.LinkEnds.{EndData}
 use Rattle.edi_record.specs.declared.record.Kind.TheVariants.{Par}
 use Rattle.edi_record.specs.declared.record.Record.{Record}
 use Rattle.edi_schema.specs.Classes.{Classes}
@@ -98,15 +98,15 @@ module _ (s : Classes) (list : List Record) (place : ℕ) (r : Record) (here : s
       by (inr n) = other n
 
       go : ((q.ends ≡ d.to_arc ∷ d.to_other ∷ []) ⊎ (q.ends ≡ d.to_other ∷ d.to_arc ∷ [])) → b ≡ a
-      go (inl e) = by (any_two (λ e. Names s list e b Par) d.to_arc d.to_other (subst (λ (es : List End). Any (λ e. Names s list e b Par) es) e any))
-      go (inr e) = by (Rattle.edi_plan.proofs.RuleLemmas.turned (any_two (λ e. Names s list e b Par) d.to_other d.to_arc (subst (λ (es : List End). Any (λ e. Names s list e b Par) es) e any)))
+      go (inl e) = by (any_two (λ e. Names s list e b Par) d.to_arc d.to_other (subst (λ (es : List EndData). Any (λ e. Names s list e b Par) es) e any))
+      go (inr e) = by (Rattle.edi_plan.proofs.RuleLemmas.turned (any_two (λ e. Names s list e b Par) d.to_other d.to_arc (subst (λ (es : List EndData). Any (λ e. Names s list e b Par) es) e any)))
 
   arc_there : (q : Record) (o : Role) (a x : ℕ) → JoinsIn s list q o a x → Any (λ e. Names s list e a Par) q.ends
   arc_there q o a x d = go d.ends
     where
       go : ((q.ends ≡ d.to_arc ∷ d.to_other ∷ []) ⊎ (q.ends ≡ d.to_other ∷ d.to_arc ∷ [])) → Any (λ e. Names s list e a Par) q.ends
-      go (inl e) = subst (λ (es : List End). Any (λ e. Names s list e a Par) es) (sym e) (any_here (λ e. Names s list e a Par) d.to_arc (d.to_other ∷ []) d.arc)
-      go (inr e) = subst (λ (es : List End). Any (λ e. Names s list e a Par) es) (sym e) (any_later (λ e. Names s list e a Par) d.to_other (d.to_arc ∷ []) (any_here (λ e. Names s list e a Par) d.to_arc [] d.arc))
+      go (inl e) = subst (λ (es : List EndData). Any (λ e. Names s list e a Par) es) (sym e) (any_here (λ e. Names s list e a Par) d.to_arc (d.to_other ∷ []) d.arc)
+      go (inr e) = subst (λ (es : List EndData). Any (λ e. Names s list e a Par) es) (sym e) (any_later (λ e. Names s list e a Par) d.to_other (d.to_arc ∷ []) (any_here (λ e. Names s list e a Par) d.to_arc [] d.arc))
 
   -- ---- each test is its rule
 

@@ -2,7 +2,7 @@
 use Rattle.std.proofs.Common.{◌≡◌, ◌≢◌, ◌∙◌, ◌+◌, ◌-◌, ◌<◌, ℕ, true, add-one, List, [], ◌∷◌, zero, suc, take, get_or, Option, Some, sym, ap, subst, arith, slice_get, Any}
 use Rattle.std.specs.List.{AllZip}
 use Rattle.std.proofs.lemmas.Option.{get_or_from_slice_get, slice_get-get_or, slice_get_within}
-use Rattle.edi_record.specs.declared.record.End.{End}
+use Rattle.edi_record.specs.LinkEnds.{EndData}
 use Rattle.edi_record.specs.declared.record.Kind.TheVariants.{Par}
 use Rattle.edi_record.specs.declared.record.Record.{Record}
 use Rattle.edi_schema.specs.Classes.{Classes, role_named}
@@ -41,7 +41,7 @@ take_at_place [] (suc n) k x less at = at
 take_at_place (y ∷ ys) (suc n) zero x less at = at
 take_at_place (y ∷ ys) (suc n) (suc k) x less at = take_at_place ys n k x (omega (arith, less)) at
 
-module _ (s : Classes) (list : List Record) (e : End) (t : Option Target) (is : IsTargetIfAny list e t) (ds : List End) (fs : List PlanEnd) (states : AllZip (StatesPlanEnd list) ds fs) where
+module _ (s : Classes) (list : List Record) (e : EndData) (t : Option Target) (is : IsTargetIfAny list e t) (ds : List EndData) (fs : List PlanEnd) (states : AllZip (StatesPlanEnd list) ds fs) where
   -- an arc that an end and one of others name
   abbrev pub IsShared : Type 0
   IsShared = (a : ℕ) × Names s list e a Par × Any (λ d. Names s list d a Par) ds

@@ -6,7 +6,7 @@ use Rattle.std.proofs.lemmas.Bool.{cases_lt, lt-ltb}
 use Rattle.std.proofs.lemmas.List.{length-replicate}
 use Rattle.std.proofs.lemmas.List.Folds.{list_any_more}
 use Rattle.std.proofs.lemmas.Option.{slice_get-get_or, slice_get_within}
-use Rattle.edi_record.specs.declared.record.End.{End}
+use Rattle.edi_record.specs.LinkEnds.{EndData}
 use Rattle.edi_record.specs.declared.record.Kind.{Kind}
 use Rattle.edi_record.specs.declared.record.Kind.TheVariants.{Par}
 use Rattle.edi_record.specs.declared.record.Record.{Record}
@@ -199,7 +199,7 @@ noted_more old now ts role i a o d less before =
 -- ---- 305 and 307 at one record
 
 module _ (s : Classes) (list : List Record) where
-  pub arc_named : (a : ℕ) (e : End) (t : Option Target) → IsTargetIfAny list e t → is_arc_at a t ≡ true → Names s list e a Par
+  pub arc_named : (a : ℕ) (e : EndData) (t : Option Target) → IsTargetIfAny list e t → is_arc_at a t ≡ true → Names s list e a Par
   arc_named a e None is h = absurd cc
   arc_named a e (Some t) is h = go (same_kind t.kind Par) refl h
     where
@@ -209,14 +209,14 @@ module _ (s : Classes) (list : List Record) where
           subst (λ n. Names s list e n Par) (sym (eqb-true a t.place h))
           (subst (λ (x : Kind). Names s list e t.place x) (kind_same s list t.kind Par k) (target_names s list e t is))
 
-  pub named_arc : (a : ℕ) (e : End) (t : Option Target) → IsTargetIfAny list e t → Names s list e a Par → is_arc_at a t ≡ true
+  pub named_arc : (a : ℕ) (e : EndData) (t : Option Target) → IsTargetIfAny list e t → Names s list e a Par → is_arc_at a t ≡ true
   named_arc a e t is names = ap (is_arc_at a) (names_target s list e t a Par is names refl) ∙ eq-eqb a a refl
 
   -- an end of this list names an arc that an earlier link of the role names
-  abbrev IsEarlierArc : ℕ → Role → End → Type 0
+  abbrev IsEarlierArc : ℕ → Role → EndData → Type 0
   IsEarlierArc n role e = (a : ℕ) × Names s list e a Par × NamesArcBefore s list n a role
 
-  sided_arc : (n : ℕ) (role : Role) (table : List (ByRole (Option ℕ))) → AreSided s list n table → is_plain role ≡ false → (e : End) (t : Option Target) → IsTargetIfAny list e t → is_sided table role t ≡ true → IsEarlierArc n role e
+  sided_arc : (n : ℕ) (role : Role) (table : List (ByRole (Option ℕ))) → AreSided s list n table → is_plain role ≡ false → (e : EndData) (t : Option Target) → IsTargetIfAny list e t → is_sided table role t ≡ true → IsEarlierArc n role e
   sided_arc n role table sided plain e None is h = absurd cc
   sided_arc n role table sided plain e (Some t) is h = go (same_kind t.kind Par) refl h
     where
@@ -228,7 +228,7 @@ module _ (s : Classes) (list : List Record) where
         (sided.each t.place role plain).0 h,
       )
 
-  arc_is_sided : (n : ℕ) (role : Role) (table : List (ByRole (Option ℕ))) → AreSided s list n table → is_plain role ≡ false → (e : End) (t : Option Target) → IsTargetIfAny list e t → IsEarlierArc n role e → is_sided table role t ≡ true
+  arc_is_sided : (n : ℕ) (role : Role) (table : List (ByRole (Option ℕ))) → AreSided s list n table → is_plain role ≡ false → (e : EndData) (t : Option Target) → IsTargetIfAny list e t → IsEarlierArc n role e → is_sided table role t ≡ true
   arc_is_sided n role table sided plain e t is d =
       ap (is_sided table role) (names_target s list e t d.0 Par is d.1 refl) ∙ (sided.each d.0 role plain).1 d.2
 
@@ -251,8 +251,8 @@ module _ (s : Classes) (list : List Record) (n : ℕ) (r : Record) (here : slice
 
   to_307 : list_any (is_sided table role) own ≡ true → RepeatsSide s list (suc n)
   to_307 h =
-      let P : End → Type 0 = λ e. (is_plain role ≡ false) × IsEarlierArc s list n role e in
-      let find : (e : End) (t : Option Target) → IsTargetIfAny list e t → is_sided table role t ≡ true → P e =
+      let P : EndData → Type 0 = λ e. (is_plain role ≡ false) × IsEarlierArc s list n role e in
+      let find : (e : EndData) (t : Option Target) → IsTargetIfAny list e t → is_sided table role t ≡ true → P e =
       λ e t is yes. (sided_kind s list table role t yes, sided_arc s list n role table sided (sided_kind s list table role t yes) e t is yes) in
       let found = zip_any (IsTargetIfAny list) P (is_sided table role) find r.ends own aimed h in
       let plain = found.4.0 in

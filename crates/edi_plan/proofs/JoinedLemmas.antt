@@ -3,7 +3,7 @@ use Rattle.std.proofs.Common.{◌≡◌, ℕ, suc, ◌-◌, ◌<◌, ◌⊎◌, 
 use Rattle.std.specs.List.{AllZip}
 use Rattle.std.proofs.lemmas.Bool.{cases_order}
 use Rattle.edi_line.specs.Refusal.{IsUnbroken}
-use Rattle.edi_record.specs.declared.record.End.{End}
+use Rattle.edi_record.specs.LinkEnds.{EndData}
 use Rattle.edi_record.specs.declared.record.Kind.{Kind}
 use Rattle.edi_record.specs.declared.record.Kind.TheVariants.{Par}
 use Rattle.edi_record.specs.declared.record.Record.{Record}
@@ -50,7 +50,7 @@ module _ (s : Classes) (sheet : Sheet) (p : PlanData) (is : IsPlanOf s sheet p) 
   plan_kind k r kind h e = (there k r h).1.kind ∙ e
 
   -- the two ends in the plan are those of the record
-  in_order : (es : List End) (ps : List PlanEnd) (d e : End) (a x : ℕ) (j k : Kind) → es ≡ d ∷ e ∷ [] → AllZip (StatesPlanEnd sheet.list) es ps → Names s sheet.list d a j → Names s sheet.list e x k
+  in_order : (es : List EndData) (ps : List PlanEnd) (d e : EndData) (a x : ℕ) (j k : Kind) → es ≡ d ∷ e ∷ [] → AllZip (StatesPlanEnd sheet.list) es ps → Names s sheet.list d a j → Names s sheet.list e x k
       → map (λ (e : PlanEnd). e.target) ps ≡ a ∷ x ∷ []
   in_order es ps d e a x j k is all first second = go ps (subst (λ xs. AllZip (StatesPlanEnd sheet.list) xs ps) is all)
     where
@@ -142,13 +142,13 @@ module _ (s : Classes) (sheet : Sheet) (p : PlanData) (is : IsPlanOf s sheet p) 
 
   -- the arc is named by an end of the record
 
-  named_end : (e : End) (q : PlanEnd) (a : ℕ) → StatesPlanEnd sheet.list e q → q.target ≡ a → (record_at p a).kind ≡ Par → Names s sheet.list e a Par
+  named_end : (e : EndData) (q : PlanEnd) (a : ℕ) → StatesPlanEnd sheet.list e q → q.target ≡ a → (record_at p a).kind ≡ Par → Names s sheet.list e a Par
   named_end e q a st is kind =
       let found = st.target ∙ ap Some is in
       let r = has_name sheet.list e.target a found in
       (r.0, found, r.1, sym (there a r.0 r.1).1.kind ∙ kind)
 
-  arc_named : (es : List End) (ps : List PlanEnd) (a x : ℕ) → AllZip (StatesPlanEnd sheet.list) es ps → ((map (λ (e : PlanEnd). e.target) ps ≡ a ∷ x ∷ []) ⊎ (map (λ (e : PlanEnd). e.target) ps ≡ x ∷ a ∷ [])) → (record_at p a).kind ≡ Par
+  arc_named : (es : List EndData) (ps : List PlanEnd) (a x : ℕ) → AllZip (StatesPlanEnd sheet.list) es ps → ((map (λ (e : PlanEnd). e.target) ps ≡ a ∷ x ∷ []) ⊎ (map (λ (e : PlanEnd). e.target) ps ≡ x ∷ a ∷ [])) → (record_at p a).kind ≡ Par
       → Any (λ e. Names s sheet.list e a Par) es
   arc_named [] [] a x all (inl e) kind = let l : 0 ≡ suc (suc 0) = ap length e in absurd (omega (arith, l))
   arc_named [] [] a x all (inr e) kind = let l : 0 ≡ suc (suc 0) = ap length e in absurd (omega (arith, l))

@@ -1,7 +1,7 @@
 -- The rules 302 to 306 as tests of one record.
 use Rattle.std.proofs.Common.{◌≡◌, ◌≢◌, ℕ, suc, ◌-◌, ◌⊎◌, inl, inr, Bool, true, false, not, ◌&&◌, is_some, is_none, List, [], ◌∷◌, flat_map, Option, Some, None, option_map, slice_get, refl, sym, ap, ◌∙◌, subst, arith, Any, true≢false}
 use Rattle.std.specs.List.{AllZip, list_any}
-use Rattle.edi_record.specs.declared.record.End.{End}
+use Rattle.edi_record.specs.LinkEnds.{EndData}
 use Rattle.edi_record.specs.declared.record.Kind.{Kind}
 use Rattle.edi_record.specs.declared.record.Kind.TheVariants.{Pno, Pfe, Lnk}
 use Rattle.edi_record.specs.declared.record.Record.{Record}
@@ -56,7 +56,7 @@ module _ (s : Classes) (list : List Record) (place : ℕ) (r : Record) (here : s
   pub to_304 : leaves (first_subset list) r.ends ≡ true → LeavesSubset s list (suc place)
   to_304 h = go (flat_map (λ q. q.ends) list) refl h
     where
-      go : (es : List End) → flat_map (λ q. q.ends) list ≡ es → leaves (option_map (λ e. record { lot = e.lot; subset = e.subset }) (first_of es)) r.ends ≡ true → LeavesSubset s list (suc place)
+      go : (es : List EndData) → flat_map (λ q. q.ends) list ≡ es → leaves (option_map (λ e. record { lot = e.lot; subset = e.subset }) (first_of es)) r.ends ≡ true → LeavesSubset s list (suc place)
       go [] e h = cc
       go (e ∷ es) is h = (r, e, es, is_at, is, true_any (λ d. (d.lot ≢ e.lot) ⊎ (d.subset ≢ e.subset)) (is_elsewhere (record { lot = e.lot; subset = e.subset })) (true_elsewhere e) r.ends h)
 
@@ -72,12 +72,12 @@ module _ (s : Classes) (list : List Record) (place : ℕ) (r : Record) (here : s
 
   pub to_305 : list_any is_none own ≡ true → NamesNothing s list (suc place)
   to_305 h =
-      let P : End → Type 0 = λ e. (place : ℕ) (kind : Kind) → Names s list e place kind → kind ≡ Lnk in
+      let P : EndData → Type 0 = λ e. (place : ℕ) (kind : Kind) → Names s list e place kind → kind ≡ Lnk in
       (r, is_at s list place r here, zip_any (IsTargetIfAny list) P is_none (nowhere s list) r.ends own aimed h)
 
   pub from_305 : NamesNothing s list (suc place) → list_any is_none own ≡ true
   from_305 d =
-      let P : End → Type 0 = λ e. (place : ℕ) (kind : Kind) → Names s list e place kind → kind ≡ Lnk in
+      let P : EndData → Type 0 = λ e. (place : ℕ) (kind : Kind) → Names s list e place kind → kind ≡ Lnk in
       any_zip (IsTargetIfAny list) P is_none (nowhere_true s list) r.ends own aimed (subst (λ (q : Record). Any P q.ends) (one_record s list place r here d.0 d.1) d.2)
 
   joins_arc : (o : Role) → JoinsArcTo s list (beside o) r → (a : ℕ) × (x : ℕ) × JoinsIn s list r o a x

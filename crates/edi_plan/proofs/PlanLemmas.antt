@@ -3,7 +3,7 @@ use Rattle.std.proofs.Common.{◌≡◌, ℕ, suc, ◌-◌, ◌<◌, ◌≤◌, 
 use Rattle.std.specs.List.{AllZip}
 use Rattle.std.proofs.lemmas.Option.{slice_get_within}
 use Rattle.edi_line.specs.Refusal.{IsUnbroken}
-use Rattle.edi_record.specs.declared.record.End.{End}
+use Rattle.edi_record.specs.LinkEnds.{EndData}
 use Rattle.edi_record.specs.declared.record.Kind.{Kind}
 use Rattle.edi_record.specs.declared.record.Kind.TheVariants.{Par}
 use Rattle.edi_record.specs.declared.record.Record.{Record}
@@ -52,7 +52,7 @@ module _ (s : Classes) (sheet : Sheet) (p : PlanData) (is : IsPlanOf s sheet p) 
   there : (k : ℕ) (r : Record) → slice_get sheet.list k ≡ Some r → IsPlace p k × StatesPlanRecord s sheet.list r (record_at p k)
   there k r h = zip_back (StatesPlanRecord s sheet.list) sheet.list p.list is.each k r blank h
 
-  two_targets : (es : List End) (ps : List PlanEnd) (d e : End) (a x : ℕ) (j k : Kind) → es ≡ d ∷ e ∷ [] → AllZip (StatesPlanEnd sheet.list) es ps → Names s sheet.list d a j → Names s sheet.list e x k → map (λ (e : PlanEnd). e.target) ps ≡ a ∷ x ∷ []
+  two_targets : (es : List EndData) (ps : List PlanEnd) (d e : EndData) (a x : ℕ) (j k : Kind) → es ≡ d ∷ e ∷ [] → AllZip (StatesPlanEnd sheet.list) es ps → Names s sheet.list d a j → Names s sheet.list e x k → map (λ (e : PlanEnd). e.target) ps ≡ a ∷ x ∷ []
   two_targets es ps d e a x j k is all first second = go ps (subst (λ xs. AllZip (StatesPlanEnd sheet.list) xs ps) is all)
     where
       go : (ps : List PlanEnd) → AllZip (StatesPlanEnd sheet.list) (d ∷ e ∷ []) ps → map (λ (e : PlanEnd). e.target) ps ≡ a ∷ x ∷ []

@@ -5,7 +5,7 @@ use Rattle.std.proofs.lemmas.Bool.{cases_order}
 use Rattle.std.proofs.lemmas.List.{length-drop, drop-drop}
 use Rattle.std.proofs.lemmas.Option.{slice_get_within}
 use Rattle.std.proofs.Math.Seq.{drop-cons}
-use Rattle.edi_record.specs.declared.record.End.{End}
+use Rattle.edi_record.specs.LinkEnds.{EndData}
 use Rattle.edi_record.specs.declared.record.Record.{Record}
 use Rattle.edi_schema.specs.Classes.{Classes}
 use Rattle.edi_plan.specs.inner.Names.{RepeatsNameAt, IsFirstRepeatedNameIfAny}
@@ -50,7 +50,7 @@ module _ (list : List Record) (items rest : List Record) (r : Record) (next : it
   pub enough_targets : length r.ends ≤ length targets
   enough_targets = zip_long (IsTargetIfAny list) r.ends (flat_map (λ q. q.ends) rest) targets ends_left
 
-pub entries_there : (list : List Record) (table : List (ByRole (Option ℕ))) (es : List End) (ts : List (Option Target)) → length table ≡ length list → AllZip (IsTargetIfAny list) es ts → HaveEntries table ts
+pub entries_there : (list : List Record) (table : List (ByRole (Option ℕ))) (es : List EndData) (ts : List (Option Target)) → length table ≡ length list → AllZip (IsTargetIfAny list) es ts → HaveEntries table ts
 entries_there list table [] [] long all = tt
 entries_there list table [] (t ∷ ts) long all = absurd all
 entries_there list table (e ∷ es) [] long all = absurd all
@@ -61,7 +61,7 @@ entries_there list table (e ∷ es) (Some t ∷ ts) long all =
 
 -- the record in the plan
 
-ends_stated : (list : List Record) (es : List End) (ts : List (Option Target)) (ps : List PlanEnd) → AllZip (IsTargetIfAny list) es ts → AreGiven ts es ps → AllZip (StatesPlanEnd list) es ps
+ends_stated : (list : List Record) (es : List EndData) (ts : List (Option Target)) (ps : List PlanEnd) → AllZip (IsTargetIfAny list) es ts → AreGiven ts es ps → AllZip (StatesPlanEnd list) es ps
 ends_stated list [] [] [] all given = tt
 ends_stated list [] [] (p ∷ ps) all given = absurd given
 ends_stated list [] (t ∷ ts) ps all given = absurd all

@@ -8,7 +8,7 @@ use Rattle.std.proofs.Math.Seq.{drop-cons}
 use Rattle.std.proofs.Math.ListN.{drop_of_length-le}
 use Rattle.std.proofs.lemmas.List.{append-nil}
 use Rattle.edi_record.specs.declared.record.Attribute.{Attribute}
-use Rattle.edi_record.specs.declared.record.End.{End}
+use Rattle.edi_record.specs.LinkEnds.{EndData}
 use Rattle.edi_record.specs.declared.record.Kind.{Kind}
 use Rattle.edi_record.specs.declared.record.Kind.TheVariants.{Par, Lnk}
 use Rattle.edi_record.specs.declared.record.Record.{Record}
@@ -131,27 +131,27 @@ lacks_true s a h = or_true (not (bytes_eq a.atp.rty (codes "ATT"))) (is_none (pl
 pub true_lacks : (s : Classes) (a : Attribute) → lacks_class s a ≡ true → HasNoAttributeClass s a
 true_lacks s a h = either (not (bytes_eq a.atp.rty (codes "ATT"))) (is_none (place_of s a.atp)) (differ a.atp.rty (codes "ATT")) (none_is (place_of s a.atp)) h
 
-pub elsewhere_true : (e d : End) → ((d.lot ≢ e.lot) ⊎ (d.subset ≢ e.subset)) → is_elsewhere (record { lot = e.lot; subset = e.subset }) d ≡ true
+pub elsewhere_true : (e d : EndData) → ((d.lot ≢ e.lot) ⊎ (d.subset ≢ e.subset)) → is_elsewhere (record { lot = e.lot; subset = e.subset }) d ≡ true
 unfolding is_elsewhere
 elsewhere_true e d h = or_true (not (bytes_eq d.lot e.lot)) (not (bytes_eq d.subset e.subset)) (differs d.lot e.lot) (differs d.subset e.subset) h
 
-pub true_elsewhere : (e d : End) → is_elsewhere (record { lot = e.lot; subset = e.subset }) d ≡ true → (d.lot ≢ e.lot) ⊎ (d.subset ≢ e.subset)
+pub true_elsewhere : (e d : EndData) → is_elsewhere (record { lot = e.lot; subset = e.subset }) d ≡ true → (d.lot ≢ e.lot) ⊎ (d.subset ≢ e.subset)
 unfolding is_elsewhere
 true_elsewhere e d h = either (not (bytes_eq d.lot e.lot)) (not (bytes_eq d.subset e.subset)) (differ d.lot e.lot) (differ d.subset e.subset) h
 
 -- ---- targets
 
 module _ (s : Classes) (list : List Record) where
-  pub target_names : (e : End) (t : Target) → Leads list e t → Names s list e t.place t.kind
+  pub target_names : (e : EndData) (t : Target) → Leads list e t → Names s list e t.place t.kind
   target_names e t d = (d.there, d.named, d.here, d.kind)
 
   not_both : (b : Bool) → b ≡ true → b ≡ false → ⊥
   not_both b t f = true≢false (sym t ∙ f)
 
-  lead : (e : End) (place : ℕ) (kind : Kind) → Names s list e place kind → is_link kind ≡ false → Leads list e (record { place = place; kind = kind })
+  lead : (e : EndData) (place : ℕ) (kind : Kind) → Names s list e place kind → is_link kind ≡ false → Leads list e (record { place = place; kind = kind })
   lead e place kind names no_link = record { there = names.0; named = names.1; here = names.2; kind = names.3; no_link = no_link }
 
-  pub names_target : (e : End) (t : Option Target) (place : ℕ) (kind : Kind) → IsTargetIfAny list e t → Names s list e place kind → is_link kind ≡ false → t ≡ Some (record { place = place; kind = kind })
+  pub names_target : (e : EndData) (t : Option Target) (place : ℕ) (kind : Kind) → IsTargetIfAny list e t → Names s list e place kind → is_link kind ≡ false → t ≡ Some (record { place = place; kind = kind })
   names_target e None place kind is names no_link = absurd (is (record { place = place; kind = kind }) (lead e place kind names no_link))
   names_target e (Some t) place kind is names no_link =
       let places : t.place ≡ place = same_some (sym is.named ∙ names.1) in
@@ -160,7 +160,7 @@ module _ (s : Classes) (list : List Record) where
       ap Some (λ i. record { place = places i; kind = kinds i })
 
   -- 305
-  pub nowhere : (e : End) (t : Option Target) → IsTargetIfAny list e t → is_none t ≡ true → (place : ℕ) (kind : Kind) → Names s list e place kind → kind ≡ Lnk
+  pub nowhere : (e : EndData) (t : Option Target) → IsTargetIfAny list e t → is_none t ≡ true → (place : ℕ) (kind : Kind) → Names s list e place kind → kind ≡ Lnk
   nowhere e (Some t) is none place kind names = cc
   nowhere e None is none place kind names = go (is_link kind) refl
     where
@@ -168,7 +168,7 @@ module _ (s : Classes) (list : List Record) where
       go true t = link_is kind t
       go false t = absurd (is (record { place = place; kind = kind }) (lead e place kind names t))
 
-  pub nowhere_true : (e : End) (t : Option Target) → IsTargetIfAny list e t → ((place : ℕ) (kind : Kind) → Names s list e place kind → kind ≡ Lnk) → is_none t ≡ true
+  pub nowhere_true : (e : EndData) (t : Option Target) → IsTargetIfAny list e t → ((place : ℕ) (kind : Kind) → Names s list e place kind → kind ≡ Lnk) → is_none t ≡ true
   nowhere_true e None is only = refl
   nowhere_true e (Some t) is only = absurd (not_both (is_link t.kind) (ap is_link (only t.place t.kind (target_names e t is))) is.no_link)
 
@@ -198,7 +198,7 @@ module _ (s : Classes) (list : List Record) where
   joins_second Right a x h = refl
   joins_second Plain a x h = cc
 
-  two_of : (es : List End) (ts : List (Option Target)) (d e : End) → es ≡ d ∷ e ∷ [] → AllZip (IsTargetIfAny list) es ts
+  two_of : (es : List EndData) (ts : List (Option Target)) (d e : EndData) → es ≡ d ∷ e ∷ [] → AllZip (IsTargetIfAny list) es ts
       → (t u : Option Target) × (ts ≡ t ∷ u ∷ []) × IsTargetIfAny list d t × IsTargetIfAny list e u
   two_of es ts d e is all = go ts (subst (λ xs. AllZip (IsTargetIfAny list) xs ts) is all)
     where
@@ -231,10 +231,10 @@ module _ (s : Classes) (list : List Record) where
       → JoinsIn s list r role j.arc j.other
   join_names r role ts j all h is = by r.ends ts refl all (sym (join_is role ts h) ∙ is)
     where
-      both : (d e : End) (t u : Target) → r.ends ≡ d ∷ e ∷ [] → Leads list d t → Leads list e u → join_of_two (beside role) t u ≡ Some j → JoinsIn s list r role j.arc j.other
+      both : (d e : EndData) (t u : Target) → r.ends ≡ d ∷ e ∷ [] → Leads list d t → Leads list e u → join_of_two (beside role) t u ≡ Some j → JoinsIn s list r role j.arc j.other
       both d e t u ends first second two = go (same_kind t.kind Par && same_kind u.kind (beside role)) refl (same_kind u.kind Par && same_kind t.kind (beside role)) refl two
         where
-          arc_of : (f : End) (v : Target) (place : ℕ) (kind : Kind) → Leads list f v → v.place ≡ place → v.kind ≡ kind → Names s list f place kind
+          arc_of : (f : EndData) (v : Target) (place : ℕ) (kind : Kind) → Leads list f v → v.place ≡ place → v.kind ≡ kind → Names s list f place kind
           arc_of f v place kind lead places kinds = (lead.there, lead.named ∙ ap Some places, subst (λ k. slice_get list k ≡ Some lead.there) places lead.here, lead.kind ∙ kinds)
 
           go : (b : Bool) → same_kind t.kind Par && same_kind u.kind (beside role) ≡ b → (c : Bool) → same_kind u.kind Par && same_kind t.kind (beside role) ≡ c
@@ -261,7 +261,7 @@ module _ (s : Classes) (list : List Record) where
               }
           go false p false q made = cc
 
-      by : (es : List End) (ts : List (Option Target)) → r.ends ≡ es → AllZip (IsTargetIfAny list) es ts → join_in (beside role) ts ≡ Some j → JoinsIn s list r role j.arc j.other
+      by : (es : List EndData) (ts : List (Option Target)) → r.ends ≡ es → AllZip (IsTargetIfAny list) es ts → join_in (beside role) ts ≡ Some j → JoinsIn s list r role j.arc j.other
       by es [] e all made = cc
       by es (t ∷ []) e all made = cc
       by es (None ∷ t ∷ []) e all made = cc
@@ -302,13 +302,13 @@ turned (inr q) = inl q
 
 -- ---- ends with their targets
 
-pub given_step : (ts : List (Option Target)) (k : ℕ) (d : Option Target) (t : Target) (es rest : List End) (e : End) (p : PlanEnd) (more : List PlanEnd) → k < length ts → get_or ts k d ≡ Some t → es ≡ e ∷ rest → GivesEnd (Some t) e p
+pub given_step : (ts : List (Option Target)) (k : ℕ) (d : Option Target) (t : Target) (es rest : List EndData) (e : EndData) (p : PlanEnd) (more : List PlanEnd) → k < length ts → get_or ts k d ≡ Some t → es ≡ e ∷ rest → GivesEnd (Some t) e p
     → AreGiven (drop (k + 1) ts) rest more → AreGiven (drop k ts) es (p ∷ more)
 given_step ts k d t es rest e p more less is next gives given =
     let front : drop k ts ≡ Some t ∷ drop (k + 1) ts = drop-cons ts k d less ∙ (λ i. is i ∷ drop (sym (Rattle.std.proofs.Common.add-one k) i) ts) in
     subst (λ us. AreGiven us es (p ∷ more)) (sym front) (subst (λ fs. AreGiven (Some t ∷ drop (k + 1) ts) fs (p ∷ more)) (sym next) (gives, given))
 
-pub given_end : (ts all : List (Option Target)) (k : ℕ) (es ends : List End) (done : List PlanEnd) → k + length es ≡ length ts → es ≡ [] → ((more : List PlanEnd) → AreGiven (drop k ts) es more → AreGiven all ends (done ++ more)) → AreGiven all ends done
+pub given_end : (ts all : List (Option Target)) (k : ℕ) (es ends : List EndData) (done : List PlanEnd) → k + length es ≡ length ts → es ≡ [] → ((more : List PlanEnd) → AreGiven (drop k ts) es more → AreGiven all ends (done ++ more)) → AreGiven all ends done
 given_end ts all k es ends done long none given =
     let past : length ts ≤ k = omega (arith, ap length none) in
     let nothing : drop k ts ≡ [] = drop_of_length-le ts past in

@@ -8,7 +8,7 @@ use Rattle.std.proofs.Math.ListN.{drop_of_length-le}
 use Rattle.edi_line.specs.inner.Refusal.{first_broken}
 use Rattle.edi_record.specs.Records as records
 use Rattle.edi_record.specs.declared.record.Attribute.{Attribute}
-use Rattle.edi_record.specs.declared.record.End.{End}
+use Rattle.edi_record.specs.LinkEnds.{EndData}
 use Rattle.edi_record.specs.declared.record.Kind.{Kind}
 use Rattle.edi_record.specs.declared.record.Kind.TheVariants.{Pno, Par, Pfe, Fea, Lnk}
 use Rattle.edi_record.specs.declared.record.Record.{Record}
@@ -78,7 +78,7 @@ none_lacks s (x ∷ xs) (y ∷ ys) all =
     let more = none_lacks s xs ys all.1 in
     λ i. (not (type i) || is_none (all.0.states.class i)) || more i
 
-pub none_missing : (ts : List (Option Target)) (es : List End) (ps : List PlanEnd) → AreGiven ts es ps → list_any is_none ts ≡ false
+pub none_missing : (ts : List (Option Target)) (es : List EndData) (ps : List PlanEnd) → AreGiven ts es ps → list_any is_none ts ≡ false
 none_missing [] es ps all = refl
 none_missing (t ∷ ts) [] ps all = absurd all
 none_missing (t ∷ ts) (e ∷ es) [] all = absurd all

@@ -7,7 +7,7 @@ use Rattle.indexmap.proofs.SetLemmas.{AllZip-push}
 use Rattle.std.proofs.lemmas.Slice.Eq.{bytes_eq-Decides}
 use Rattle.edi_record.specs.Shapes.{kind_code}
 use Rattle.edi_record.specs.declared.name.Name.{Name}
-use Rattle.edi_record.specs.declared.record.End.{End}
+use Rattle.edi_record.specs.LinkEnds.{EndData}
 use Rattle.edi_record.specs.declared.record.Kind.{Kind}
 use Rattle.edi_record.specs.declared.record.Kind.TheVariants.{Pno, Par, Pfe, Fea, Lnk}
 use Rattle.edi_record.specs.declared.record.Record.{Record}
@@ -50,7 +50,7 @@ only_named list name (Some n) k first some h = cc
 only_named list name None k none some h =
     first_named list name k (record { there = h.there; here = h.here; is = h.is; none_before = λ j q less at is. none k (j, q, h.there, less, at, h.here, is ∙ sym h.is) })
 
-module _ (list : List Record) (e : End) where
+module _ (list : List Record) (e : EndData) where
   -- the type that the end says is that of the record
   pub leads_kind : (t : Target) → Leads list e t → target_kind e.target.rty ≡ Some t.kind
   leads_kind t d =

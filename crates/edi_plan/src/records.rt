@@ -130,7 +130,7 @@ fn plan_end(target: Target, end: &End) -> Result<PlanEnd, AllocError>
 {
     Ok(PlanEnd {
         target: target.place,
-        sns: copied(&end.sns)?,
+        sns: copied(end.sns())?,
     })
 }
 
@@ -170,7 +170,7 @@ fn plan_extras(extras: &[Extra], mut done: Vec<Extra>) -> Result<Vec<Extra>, All
 fn is_other(subset: &Subset, end: &End) -> bool
     ensures { result ≡ is_elsewhere subset.now end.now }
 {
-    end.lot != subset.lot || end.subset != subset.subset
+    *end.lot() != subset.lot || *end.subset() != subset.subset
 }
 
 fn has_other(subset: &Subset, ends: &[End]) -> bool

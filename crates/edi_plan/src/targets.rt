@@ -2,7 +2,7 @@
 
 ghost use Rattle.std.specs.Prelude.{◌≡◌, ◌++◌, List, IfOk, IfSome, OnOk, true, false};
 ghost use Rattle.std.specs.List.{AllZip};
-ghost use Rattle.edi_record.specs.declared.record.End.{End as Ends};
+ghost use Rattle.edi_record.specs.LinkEnds.{EndData};
 ghost use Rattle.edi_plan.specs.inner.Names.{name_lent, AreFirstPlaces, IsFirstRepeatedNameIfAny};
 ghost use Rattle.edi_plan.specs.inner.Found.{FindsAll};
 ghost use Rattle.edi_plan.specs.PlanOf.{place_named};
@@ -141,10 +141,10 @@ fn target_of(
     requires { FindsAll records.now names.now }
     ensures { IsTargetIfAny records.now end.now result }
 {
-    let kind = kind_coded(end.target.rty.as_slice())?;
+    let kind = kind_coded(end.rty().as_slice())?;
     let name = RecordNameRef {
         kind,
-        rid: &end.target.rid,
+        rid: end.rid(),
     };
     let place = place_of(records, names, last.place(kind), &name)?;
     Some(Target { place, kind })
@@ -159,7 +159,7 @@ fn add_targets(
     ends: &[End],
 ) -> Result<(), AllocError>
     requires { FindsAll records.now names.now }
-    ensures { OnOk result ((before : List Ends) → AllZip (IsTargetIfAny records.now) before targets.old.items
+    ensures { OnOk result ((before : List EndData) → AllZip (IsTargetIfAny records.now) before targets.old.items
         → AllZip (IsTargetIfAny records.now) (before ++ ends.now) targets.new.items) }
 {
     for end in ends {

@@ -13,7 +13,7 @@ use Rattle.edi_record.specs.inner.Stored.{has_stray, sns_with, sns_come, end_wit
 use Rattle.edi_record.specs.declared.ends.OpenEnd.{OpenEnd}
 use Rattle.edi_record.specs.declared.pointer.Pointer.{Pointer}
 use Rattle.edi_record.specs.declared.record.Kind.{Kind}
-use Rattle.edi_record.specs.declared.record.End.{End}
+use Rattle.edi_record.specs.LinkEnds.{EndData}
 use Rattle.edi_record.proofs.AttributesStored.{code_is, some_joined, none_is, one_more}
 use Rattle.edi_record.proofs.AttributesRead.{one_missing}
 use Rattle.edi_record.proofs.Loops.{sns_none, sns_stops, sns_found, sns_goes_on, ends_end, ends_skip, end_read, no_end, stray_sns_goes_on}
@@ -38,7 +38,7 @@ closes_end zs (Some a) sns = by_sns (sns_come a)
     by_sns (Some text) = refl
     by_sns None = ap (λ s. Some (end_with a s) ∷ ends zs) (sym sns)
 
-ended_in : (zs group : List ZoneData) (o : Option OpenEnd) (done new : List End) → None ≡ sns_after zs → ends group ≡ map Some done ++ ends_with o zs → new ≡ done ++ ended_with o → ends group ≡ map Some new ++ ends zs
+ended_in : (zs group : List ZoneData) (o : Option OpenEnd) (done new : List EndData) → None ≡ sns_after zs → ends group ≡ map Some done ++ ends_with o zs → new ≡ done ++ ended_with o → ends group ≡ map Some new ++ ends zs
 ended_in zs group o done new sns made pushed = made ∙ ap (λ t. map Some done ++ t) (closes_end zs o sns) ∙ some_joined done (ended_with o) (ends zs) ∙ ap (λ t. map Some t ++ ends zs) (sym pushed)
 
 -- no SNS comes before these zones, and none in them for an open end
@@ -85,7 +85,7 @@ ends_broken old new zs left group broken found h = record {
     by_old true e = h.broken e
     by_old false e = found e
 
-pub no_pointer_taken : (old new : KeptEnds) (done : List End) (z : ZoneData) (left group : List ZoneData) (text : List ℕ) → points_at z ≡ true → z.value ≡ text → None ≡ pointer text
+pub no_pointer_taken : (old new : KeptEnds) (done : List EndData) (z : ZoneData) (left group : List ZoneData) (text : List ℕ) → points_at z ≡ true → z.value ≡ text → None ≡ pointer text
     → new.is_broken ≡ true → done ≡ old.done ++ ended_with old.opened → StoresEnds old (z ∷ left) group → StoresEnds new left group
 no_pointer_taken old new done z left group text e same read broken pushed h = ends_broken old new (z ∷ left) left group broken (λ b. or_left _ _ (one_missing (ends group) (ends (z ∷ left)) (ends left) done
     (ended_in (z ∷ left) group old.opened old.done done (sns_stops z left e) (h.made b) pushed)
@@ -118,7 +118,7 @@ sense_taken old new o n z left group e was no_sense same_broken same_done is cla
     there : ends_with (Some n) left ≡ Some (end_with o (Some z.value)) ∷ ends left
     there =
         ap (λ s. Some (end_with n (sns_with s left)) ∷ ends left) sense
-        ∙ ap (λ p. (let x : End = record { lot = p.lot.now; subset = p.subset.now; target = record { rty = p.rty.now; rid = p.rid.now }; sns = Some z.value } in Some x ∷ ends left)) class
+        ∙ ap (λ p. (let x : EndData = record { lot = p.lot.now; subset = p.subset.now; target = record { rty = p.rty.now; rid = p.rid.now }; sns = Some z.value } in Some x ∷ ends left)) class
 
     once : bad_sns_with (Some o) (z ∷ left) ≡ bad_sns_with (Some n) left
     once = rw (no_sense, some, senses_more z left e, skips_repeat z left (sense_only z e), one_more (senses_left left)) refl
@@ -152,14 +152,14 @@ ends_pass a z left group not_end not_sense h = record {
 
 -- ---- all zones have come
 
-pub ends_come : (a : KeptEnds) (done : List End) (group : List ZoneData) → a.is_broken ≡ false → done ≡ a.done ++ ended_with a.opened → StoresEnds a [] group → ends group ≡ map Some done
+pub ends_come : (a : KeptEnds) (done : List EndData) (group : List ZoneData) → a.is_broken ≡ false → done ≡ a.done ++ ended_with a.opened → StoresEnds a [] group → ends group ≡ map Some done
 ends_come a done group b closed h = ended_in [] group a.opened a.done done sns_none (h.made b) closed ∙ ap (λ t. map Some done ++ t) ends_end ∙ append-nil (map Some done)
 
-pub ends_sound : (a : KeptEnds) (kind : Kind) (done : List End) (group : List ZoneData) → a.is_broken ≡ false → done ≡ a.done ++ ended_with a.opened → 2 ≤ length done → kind_in group ≡ Some kind → is_link kind ≡ true → StoresEnds a [] group → has_bad_end group ≡ false
+pub ends_sound : (a : KeptEnds) (kind : Kind) (done : List EndData) (group : List ZoneData) → a.is_broken ≡ false → done ≡ a.done ++ ended_with a.opened → 2 ≤ length done → kind_in group ≡ Some kind → is_link kind ≡ true → StoresEnds a [] group → has_bad_end group ≡ false
 ends_sound a kind done group b closed many k link h =
     good_ends kind group done (bad_sns_with None group) k link (ends_come a done group b closed h) many refl (h.sns b ∙ sns_over [] a.opened refl refl)
 
-pub ends_few : (a : KeptEnds) (kind : Kind) (done : List End) (group : List ZoneData) → a.is_broken ≡ false → done ≡ a.done ++ ended_with a.opened → length done < 2 → kind_in group ≡ Some kind → is_link kind ≡ true → StoresEnds a [] group → has_bad_end group ≡ true
+pub ends_few : (a : KeptEnds) (kind : Kind) (done : List EndData) (group : List ZoneData) → a.is_broken ≡ false → done ≡ a.done ++ ended_with a.opened → length done < 2 → kind_in group ≡ Some kind → is_link kind ≡ true → StoresEnds a [] group → has_bad_end group ≡ true
 ends_few a kind done group b closed few k link h = few_ends kind group done k link (ends_come a done group b closed h) few
 
 pub ends_bad : (a : KeptEnds) (kind : Kind) (group : List ZoneData) → a.is_broken ≡ true → kind_in group ≡ Some kind → is_link kind ≡ true → StoresEnds a [] group → has_bad_end group ≡ true

@@ -7,7 +7,7 @@ use Rattle.edi_line.specs.ZoneData.{ZoneData, has_code, first}
 use Rattle.edi_record.specs.Records.{values, opens, closes, points_at}
 use Rattle.edi_record.specs.inner.Records.{set_after, value_after, attribute, attributes, sns_after, end_with_sense, ends}
 use Rattle.edi_record.specs.declared.record.Attribute.{Attribute}
-use Rattle.edi_record.specs.declared.record.End.{End}
+use Rattle.edi_record.specs.LinkEnds.{EndData}
 use Rattle.edi_record.proofs.AttributesRead.{set_none, set_stops, set_found, set_goes_on, attributes_end, attributes_here, attributes_skip}
 use Rattle.edi_record.proofs.Loops.{ends_end, ends_here, ends_skip}
 
@@ -16,7 +16,7 @@ abbrev pub attribute_in : ZoneData → List ZoneData → Option Attribute
 attribute_in z behind = attribute z.value (first (values (codes "TEX") (before_first closes (before_first opens behind)))) (unwrap_or (first (values (codes "ATV") (before_first opens behind))) [])
 
 -- an FTP with the first SNS before the next FTP
-abbrev pub end_in : ZoneData → List ZoneData → Option End
+abbrev pub end_in : ZoneData → List ZoneData → Option EndData
 end_in z behind = end_with_sense z.value (first (values (codes "SNS") (before_first points_at behind)))
 
 pub before_yes : (p : ZoneData → Bool) (z : ZoneData) (zs : List ZoneData) → p z ≡ true → before_first p (z ∷ zs) ≡ []

@@ -20,7 +20,7 @@ use Rattle.edi_record.specs.inner.RecordRules.{kind_in, is_unknown_pointer, has_
 use Rattle.edi_record.specs.inner.Stored.{is_stray, extras_after, has_stray}
 use Rattle.edi_record.specs.declared.record.Kind.{Kind}
 use Rattle.edi_record.specs.declared.record.Extra.{Extra}
-use Rattle.edi_record.specs.declared.record.End.{End}
+use Rattle.edi_record.specs.LinkEnds.{EndData}
 
 abbrev pub are_worth : List ℕ → ℕ → Bool
 are_worth digits number = all_ascii_digits digits && eqb (digits_value 10 digits) number
@@ -112,7 +112,7 @@ pub ends_here : (z : ZoneData) (zs : List ZoneData) → points_at z ≡ true →
 unfolding ends
 ends_here z zs e = rw e refl
 
-abbrev end_made : PointerText → List ZoneData → End
+abbrev end_made : PointerText → List ZoneData → EndData
 end_made p zs = record { lot = p.lot; subset = p.subset; target = record { rty = p.rty; rid = p.rid }; sns = sns_after zs }
 
 pub end_read : (z : ZoneData) (zs : List ZoneData) (text : List ℕ) (p : PointerText) → points_at z ≡ true → text ≡ z.value → Some p ≡ pointer text → ends (z ∷ zs) ≡ Some (end_made p zs) ∷ ends zs

@@ -15,7 +15,7 @@ use Rattle.edi_record.specs.inner.RecordRules.{kind_named, kind_in, repeats_code
 use Rattle.edi_record.specs.declared.record.Kind.{Kind}
 use Rattle.edi_record.specs.declared.record.Kind.TheVariants.{Pno, Par, Pfe, Fea, Lnk}
 use Rattle.edi_record.specs.declared.record.Attribute.{Attribute}
-use Rattle.edi_record.specs.declared.record.End.{End}
+use Rattle.edi_record.specs.LinkEnds.{EndData}
 use Rattle.edi_record.specs.declared.record.Point.{Point}
 use Rattle.edi_record.specs.inner.Stored.{is_stray, has_stray}
 
@@ -142,7 +142,7 @@ link_end kind g k h = rw (k, h) refl
 pub bad_target : (kind : Kind) (g : List ZoneData) → kind_in g ≡ Some kind → is_link kind ≡ true → list_any is_none (ends g) ≡ true → has_bad_end g ≡ true
 bad_target kind g k h e = link_end kind g k h ∙ or_left _ _ (sym (ends_lack g) ∙ e)
 
-pub few_ends : (kind : Kind) (g : List ZoneData) (es : List End) → kind_in g ≡ Some kind → is_link kind ≡ true → ends g ≡ map Some es → length es < 2 → has_bad_end g ≡ true
+pub few_ends : (kind : Kind) (g : List ZoneData) (es : List EndData) → kind_in g ≡ Some kind → is_link kind ≡ true → ends g ≡ map Some es → length es < 2 → has_bad_end g ≡ true
 few_ends kind g es k h e few =
     let count = sym (ends_count g) ∙ same_length (ends g) es e in
     link_end kind g k h ∙ or_right _ _ (or_left _ _ (lt-ltb (length (values (codes "FTP") g)) 2 (omega (arith, count, few))))
@@ -150,7 +150,7 @@ few_ends kind g es k h e few =
 pub bad_sns : (kind : Kind) (g : List ZoneData) (bad : Bool) → kind_in g ≡ Some kind → is_link kind ≡ true → bad ≡ (has_stray g || repeats_code points_at points_at (codes "SNS") g) → bad ≡ true → has_bad_end g ≡ true
 bad_sns kind g bad k h e b = link_end kind g k h ∙ or_right _ _ (or_right _ _ (sym e ∙ b))
 
-pub good_ends : (kind : Kind) (g : List ZoneData) (es : List End) (bad : Bool) → kind_in g ≡ Some kind → is_link kind ≡ true → ends g ≡ map Some es → 2 ≤ length es
+pub good_ends : (kind : Kind) (g : List ZoneData) (es : List EndData) (bad : Bool) → kind_in g ≡ Some kind → is_link kind ≡ true → ends g ≡ map Some es → 2 ≤ length es
     → bad ≡ (has_stray g || repeats_code points_at points_at (codes "SNS") g) → bad ≡ false → has_bad_end g ≡ false
 good_ends kind g es bad k h e many s b =
     let count = sym (ends_count g) ∙ same_length (ends g) es e in

@@ -28,7 +28,7 @@ use Rattle.edi_record.specs.declared.record.Attribute.{Attribute}
 use Rattle.edi_record.specs.declared.record.Extra.{Extra}
 use Rattle.edi_record.specs.declared.record.Value.{Value}
 use Rattle.edi_record.specs.declared.record.Value.TheVariants.{Number, Bytes}
-use Rattle.edi_record.specs.declared.record.End.{End}
+use Rattle.edi_record.specs.LinkEnds.{EndData}
 use Rattle.edi_record.specs.declared.record.Point.{Point}
 use Rattle.edi_record.proofs.Stated.{record_is, unknown, joined, mapped_each, behind, behind_is}
 use Rattle.edi_record.proofs.SheetStated.{free_apart}
@@ -117,7 +117,7 @@ sns_printable : (sns : Option (List ℕ)) → IfSome sns IsOneLine → AllByRecu
 sns_printable None h = tt
 sns_printable (Some text) h = (record { code = refl; zone = refl; nature = refl; format = refl; one_line = h }, tt)
 
-end_printable : (e : End) → IsLineEnd e → AllByRecursion IsPrintable (zones_of_end e)
+end_printable : (e : EndData) → IsLineEnd e → AllByRecursion IsPrintable (zones_of_end e)
 unfolding zones_of_end
 end_printable e h = (record { code = refl; zone = refl; nature = refl; format = refl; one_line = end_line e.target h.target }, sns_printable e.sns h.sns)
 

@@ -26,7 +26,7 @@ use Rattle.edi_record.specs.declared.record.Kind.TheVariants.{Pno, Par, Pfe, Fea
 use Rattle.edi_record.specs.declared.record.Record.{Record}
 use Rattle.edi_record.specs.declared.record.Attribute.{Attribute}
 use Rattle.edi_record.specs.declared.record.Extra.{Extra}
-use Rattle.edi_record.specs.declared.record.End.{End}
+use Rattle.edi_record.specs.LinkEnds.{EndData}
 use Rattle.edi_record.specs.declared.record.Point.{Point}
 use Rattle.edi_record.proofs.Stated.{record_again, record_is, unknown, known_apart, joined, mapped, mapped_each, flat_mapped, HoldsInBody, HoldsBehind, body_each, behind, behind_is, behind_each, none_found, and_false, picked_extras}
 use Rattle.edi_record.proofs.Passes.{kind_is, has_kind, has_identifier, has_class}
@@ -170,17 +170,17 @@ body_value code text s r h rty rid scp body back extras =
 no_point : (code : List ℕ) → bytes_eq (codes "COR") code ≡ false → (xs : List Point) → AllByRecursion (λ z. has_code code z ≡ false) (map point_zone xs)
 no_point code e xs = mapped (λ z. has_code code z ≡ false) point_zone (λ x. e) xs
 
-no_end_zone : (code : List ℕ) → bytes_eq (codes "FTP") code ≡ false → bytes_eq (codes "SNS") code ≡ false → (xs : List End) → AllByRecursion (λ z. has_code code z ≡ false) (flat_map zones_of_end xs)
+no_end_zone : (code : List ℕ) → bytes_eq (codes "FTP") code ≡ false → bytes_eq (codes "SNS") code ≡ false → (xs : List EndData) → AllByRecursion (λ z. has_code code z ≡ false) (flat_map zones_of_end xs)
 unfolding zones_of_end
 no_end_zone code e f xs = flat_mapped (λ z. has_code code z ≡ false) zones_of_end (λ x. (e, mapped (λ z. has_code code z ≡ false) sns_zone (λ t. f) (option_to_list x.sns))) xs
 
-ptc_found : (points : List Point) (ends : List End) → filter (has_code (codes "PTC")) (zones_of_body Par points ends) ≡ zone_text (codes "PTC") 83 78 (decimal (length points)) ∷ []
+ptc_found : (points : List Point) (ends : List EndData) → filter (has_code (codes "PTC")) (zones_of_body Par points ends) ≡ zone_text (codes "PTC") 83 78 (decimal (length points)) ∷ []
 unfolding zones_of_body
 ptc_found points ends =
     ap (λ t. zone_text (codes "PTC") 83 78 (decimal (length points)) ∷ t)
     (none_found (has_code (codes "PTC")) (map point_zone points ++ flat_map zones_of_end ends) (joined (λ z. has_code (codes "PTC") z ≡ false) (map point_zone points) (flat_map zones_of_end ends) (no_point (codes "PTC") refl points) (no_end_zone (codes "PTC") refl refl ends)))
 
-ftc_found : (points : List Point) (ends : List End) → filter (has_code (codes "FTC")) (zones_of_body Lnk points ends) ≡ zone_text (codes "FTC") 83 78 (decimal (length ends)) ∷ []
+ftc_found : (points : List Point) (ends : List EndData) → filter (has_code (codes "FTC")) (zones_of_body Lnk points ends) ≡ zone_text (codes "FTC") 83 78 (decimal (length ends)) ∷ []
 unfolding zones_of_body
 ftc_found points ends =
     ap (λ t. zone_text (codes "FTC") 83 78 (decimal (length ends)) ∷ t)
@@ -309,12 +309,12 @@ ends_none : (zs : List ZoneData) → AllByRecursion IsOther zs → ends_repeat z
 ends_none [] h = refl
 ends_none (z ∷ zs) h = rw h.0.0 (ends_none zs h.1)
 
-next_count : (xs : List End) (more : List ZoneData) → AllByRecursion IsOther more → count_until points_at (codes "SNS") (flat_map zones_of_end xs ++ more) ≡ 0
+next_count : (xs : List EndData) (more : List ZoneData) → AllByRecursion IsOther more → count_until points_at (codes "SNS") (flat_map zones_of_end xs ++ more) ≡ 0
 unfolding zones_of_end
 next_count [] more h = no_sns_left more h
 next_count (x ∷ xs) more h = refl
 
-ends_one : (x : End) (more : List ZoneData) → count_until points_at (codes "SNS") more ≡ 0 → ends_repeat (zones_of_end x ++ more) ≡ ends_repeat more
+ends_one : (x : EndData) (more : List ZoneData) → count_until points_at (codes "SNS") more ≡ 0 → ends_repeat (zones_of_end x ++ more) ≡ ends_repeat more
 unfolding zones_of_end
 ends_one x more none = by_sns x.sns
   where
@@ -322,7 +322,7 @@ ends_one x more none = by_sns x.sns
     by_sns None = rw none refl
     by_sns (Some text) = rw none refl
 
-ends_all : (xs : List End) (more : List ZoneData) → AllByRecursion IsOther more → ends_repeat (flat_map zones_of_end xs ++ more) ≡ false
+ends_all : (xs : List EndData) (more : List ZoneData) → AllByRecursion IsOther more → ends_repeat (flat_map zones_of_end xs ++ more) ≡ false
 ends_all [] more h = ends_none more h
 ends_all (x ∷ xs) more h =
     ap ends_repeat (append_assoc (zones_of_end x) (flat_map zones_of_end xs) more)
@@ -336,7 +336,7 @@ stray_sns_none : (zs : List ZoneData) → AllByRecursion IsOther zs → has_stra
 stray_sns_none [] h = refl
 stray_sns_none (z ∷ zs) h = sym (stray_sns_goes_on z zs h.0.0 h.0.1) ∙ stray_sns_none zs h.1
 
-stray_sns_ends : (xs : List End) (more : List ZoneData) → AllByRecursion IsOther more → has_stray (flat_map zones_of_end xs ++ more) ≡ false
+stray_sns_ends : (xs : List EndData) (more : List ZoneData) → AllByRecursion IsOther more → has_stray (flat_map zones_of_end xs ++ more) ≡ false
 unfolding zones_of_end
 stray_sns_ends [] more h = stray_sns_none more h
 stray_sns_ends (x ∷ xs) more h = refl
@@ -354,7 +354,7 @@ link_front s r = zone_text (codes "RTY") 83 65 (kind_code r.kind) ∷ zone_text 
 link_front_other : (s : Letters) (r : Record) → AllByRecursion IsOther (link_front s r)
 link_front_other s r = ((refl, refl), ((refl, refl), ((refl, refl), ((refl, refl), tt))))
 
-link_body : (points : List Point) (ends : List End) → points ≡ [] → zones_of_body Lnk points ends ≡ zone_text (codes "FTC") 83 78 (decimal (length ends)) ∷ flat_map zones_of_end ends
+link_body : (points : List Point) (ends : List EndData) → points ≡ [] → zones_of_body Lnk points ends ≡ zone_text (codes "FTC") 83 78 (decimal (length ends)) ∷ flat_map zones_of_end ends
 unfolding zones_of_body
 link_body points ends e = rw e refl
 

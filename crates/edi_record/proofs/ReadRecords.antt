@@ -32,7 +32,7 @@ use Rattle.edi_record.specs.declared.record.Record.{Record}
 use Rattle.edi_record.specs.declared.record.Attribute.{Attribute}
 use Rattle.edi_record.specs.declared.record.Extra.{Extra}
 use Rattle.edi_record.specs.declared.record.Value.TheVariants.{Number, Bytes}
-use Rattle.edi_record.specs.declared.record.End.{End}
+use Rattle.edi_record.specs.LinkEnds.{EndData}
 use Rattle.edi_record.specs.declared.record.Point.{Point}
 use Rattle.edi_record.specs.declared.sheet.Sheet.{Sheet}
 use Rattle.edi_line.proofs.ZonesSaid.{zones_read}
@@ -211,7 +211,7 @@ attributes_read (z ∷ zs) h = go (attributes_read zs h.1) (opens z)
 
 -- ---- ends
 
-record IsReadEnd (e : End) : Type 0 where
+record IsReadEnd (e : EndData) : Type 0 where
   name : IsName e.target
   line : IsLineEnd e
 
@@ -228,7 +228,7 @@ sns_one_line (z ∷ zs) h = go (sns_one_line zs h.1) (points_at z) (has_code (co
 end_read : (text : List ℕ) (sns : Option (List ℕ)) → IsOneLine text → IfSome sns IsOneLine → IfSome (end_with_sense text sns) IsReadEnd
 end_read text sns h k = go (pointer text) (pointer_read text h)
   where
-    go : (o : Option PointerText) → IfSome o NamesWell → IfSome (option_map (λ (p : PointerText). (let e : End = record { lot = p.lot; subset = p.subset; target = record { rty = p.rty; rid = p.rid }; sns = sns } in e)) o) IsReadEnd
+    go : (o : Option PointerText) → IfSome o NamesWell → IfSome (option_map (λ (p : PointerText). (let e : EndData = record { lot = p.lot; subset = p.subset; target = record { rty = p.rty; rid = p.rid }; sns = sns } in e)) o) IsReadEnd
     go None l = tt
     go (Some p) l = record { name = l.name; line = record { target = l.line; sns = k } }
 
@@ -373,7 +373,7 @@ two_or_more n e = le-leb 2 n (ltb-false n 2 e)
 none_counted : {X : Type 0} (xs : List X) → [] ≡ map Some xs → eqb (length xs) 0 ≡ true
 none_counted xs e = ap (λ t. eqb (length t) 0) (none_of xs e)
 
-shape_read : (kind : Kind) (group : List ZoneData) (ps : List Point) (es : List End) → kind_in group ≡ Some kind → cond (has_points kind) (map point_in (values (codes "COR") group)) [] ≡ map Some ps
+shape_read : (kind : Kind) (group : List ZoneData) (ps : List Point) (es : List EndData) → kind_in group ≡ Some kind → cond (has_points kind) (map point_in (values (codes "COR") group)) [] ≡ map Some ps
     → cond (is_link kind) (ends group) [] ≡ map Some es → has_bad_point group ≡ false → has_bad_end group ≡ false → (may_have_points kind (length ps) && may_have_ends kind (length es)) ≡ true
 shape_read Pno group ps es k p e bad_point bad_end =
     let count : length (values (codes "COR") group) ≡ length ps = sym (length-map (values (codes "COR") group) point_in) ∙ same_length (map point_in (values (codes "COR") group)) ps p in
@@ -422,7 +422,7 @@ attribute_parts : (xs : List Attribute) → AllByRecursion IsReadAttribute xs �
 attribute_parts [] h = (tt, tt)
 attribute_parts (x ∷ xs) h = let more = attribute_parts xs h.1 in ((h.0.name, more.0), (h.0.line, more.1))
 
-end_parts : (xs : List End) → AllByRecursion IsReadEnd xs → AllByRecursion (λ e. IsName e.target) xs × AllByRecursion IsLineEnd xs
+end_parts : (xs : List EndData) → AllByRecursion IsReadEnd xs → AllByRecursion (λ e. IsName e.target) xs × AllByRecursion IsLineEnd xs
 end_parts [] h = (tt, tt)
 end_parts (x ∷ xs) h = let more = end_parts xs h.1 in ((h.0.name, more.0), (h.0.line, more.1))
 

@@ -26,7 +26,7 @@ use Rattle.edi_record.specs.declared.record.Attribute.{Attribute}
 use Rattle.edi_record.specs.declared.record.Extra.{Extra}
 use Rattle.edi_record.specs.declared.record.Value.{Value}
 use Rattle.edi_record.specs.declared.record.Value.TheVariants.{Number, Bytes}
-use Rattle.edi_record.specs.declared.record.End.{End}
+use Rattle.edi_record.specs.LinkEnds.{EndData}
 use Rattle.edi_record.specs.declared.record.Point.{Point}
 use Rattle.edi_record.proofs.TextParts.{pointer_is, place_is}
 
@@ -129,11 +129,11 @@ count_each P k Pfe m n = tt
 count_each P k Fea m n = tt
 count_each P k Lnk m n = (k.ftc (decimal n), tt)
 
-end_each : (P : ZoneData → Type 0) → HoldsInBody P → (e : End) → AllByRecursion P (zones_of_end e)
+end_each : (P : ZoneData → Type 0) → HoldsInBody P → (e : EndData) → AllByRecursion P (zones_of_end e)
 unfolding zones_of_end
 end_each P k e = (k.ftp (end_text e.target), mapped P sns_zone k.sns (option_to_list e.sns))
 
-pub body_each : (P : ZoneData → Type 0) → HoldsInBody P → (kind : Kind) (points : List Point) (ends : List End) → AllByRecursion P (zones_of_body kind points ends)
+pub body_each : (P : ZoneData → Type 0) → HoldsInBody P → (kind : Kind) (points : List Point) (ends : List EndData) → AllByRecursion P (zones_of_body kind points ends)
 unfolding zones_of_body
 body_each P k kind points ends =
     joined P (count_zones kind (length points) (length ends)) _ (count_each P k kind (length points) (length ends))
@@ -209,11 +209,11 @@ pick_plain kind (z ∷ zs) rest h = rw (and_false (has_code (codes "TEX") z), h.
 plain_points : (kind : Kind) → is_known kind (codes "COR") ≡ true → (xs : List Point) → AllByRecursion (IsPlain kind) (map point_zone xs)
 plain_points kind e xs = mapped (IsPlain kind) point_zone (λ x. record { known = e; opens_none = refl; closes_none = refl }) xs
 
-plain_ends : (xs : List End) → AllByRecursion (IsPlain Lnk) (flat_map zones_of_end xs)
+plain_ends : (xs : List EndData) → AllByRecursion (IsPlain Lnk) (flat_map zones_of_end xs)
 unfolding zones_of_end
 plain_ends xs = flat_mapped (IsPlain Lnk) zones_of_end (λ e. (record { known = refl; opens_none = refl; closes_none = refl }, mapped (IsPlain Lnk) sns_zone (λ t. record { known = refl; opens_none = refl; closes_none = refl }) (option_to_list e.sns))) xs
 
-plain_body : (kind : Kind) (points : List Point) (ends : List End) → (has_points kind ≡ false → points ≡ []) → (is_link kind ≡ false → ends ≡ []) → AllByRecursion (IsPlain kind) (zones_of_body kind points ends)
+plain_body : (kind : Kind) (points : List Point) (ends : List EndData) → (has_points kind ≡ false → points ≡ []) → (is_link kind ≡ false → ends ≡ []) → AllByRecursion (IsPlain kind) (zones_of_body kind points ends)
 unfolding zones_of_body
 plain_body Pno points ends p e = rw (e refl) (joined (IsPlain Pno) (map point_zone points) [] (plain_points Pno refl points) tt)
 plain_body Par points ends p e = rw (e refl) (record { known = refl; opens_none = refl; closes_none = refl }, joined (IsPlain Par) (map point_zone points) [] (plain_points Par refl points) tt)
@@ -261,7 +261,7 @@ extras_again rty (e ∷ xs) h =
 s_part : IsPart (codes "S")
 s_part = All-from_recursion (λ b. eqb b 59 ≡ false) (codes "S") (refl, tt)
 
-target_again : (e : End) → IsName e.target → end_with_sense (end_text e.target) e.sns ≡ Some (settled_end e)
+target_again : (e : EndData) → IsName e.target → end_with_sense (end_text e.target) e.sns ≡ Some (settled_end e)
 target_again e h = rw (pointer_again (record { lot = codes "CANON"; subset = codes "S"; rty = e.target.rty; rid = e.target.rid }) canon_part s_part h.rty h.rid) refl
 
 -- a zone that is no end and no SNS
@@ -278,12 +278,12 @@ unfolding ends IsNoEnd
 no_ends_in [] h = refl
 no_ends_in (z ∷ zs) h = rw h.0.0 (no_ends_in zs h.1)
 
-next_sns : (xs : List End) (rest : List ZoneData) → AllByRecursion IsNoEnd rest → sns_after (flat_map zones_of_end xs ++ rest) ≡ None
+next_sns : (xs : List EndData) (rest : List ZoneData) → AllByRecursion IsNoEnd rest → sns_after (flat_map zones_of_end xs ++ rest) ≡ None
 unfolding sns_after zones_of_end
 next_sns [] rest h = no_sns rest h
 next_sns (x ∷ xs) rest h = refl
 
-end_again : (e : End) (rest : List ZoneData) → IsName e.target → sns_after rest ≡ None → ends (zones_of_end e ++ rest) ≡ Some (settled_end e) ∷ ends rest
+end_again : (e : EndData) (rest : List ZoneData) → IsName e.target → sns_after rest ≡ None → ends (zones_of_end e ++ rest) ≡ Some (settled_end e) ∷ ends rest
 unfolding ends zones_of_end sns_after
 end_again e rest h none = by_sns e.sns (target_again e h)
   where
@@ -292,7 +292,7 @@ end_again e rest h none = by_sns e.sns (target_again e h)
     by_sns None t = rw (none, t) refl
     by_sns (Some text) t = rw t refl
 
-ends_again : (xs : List End) (rest : List ZoneData) → AllByRecursion (λ e. IsName e.target) xs → AllByRecursion IsNoEnd rest → ends (flat_map zones_of_end xs ++ rest) ≡ map Some (map settled_end xs)
+ends_again : (xs : List EndData) (rest : List ZoneData) → AllByRecursion (λ e. IsName e.target) xs → AllByRecursion IsNoEnd rest → ends (flat_map zones_of_end xs ++ rest) ≡ map Some (map settled_end xs)
 ends_again [] rest h k = no_ends_in rest k
 ends_again (x ∷ xs) rest h k =
     ap ends (append_assoc (zones_of_end x) (flat_map zones_of_end xs) rest)
@@ -319,11 +319,11 @@ no_count Pfe m n = refl
 no_count Fea m n = refl
 no_count Lnk m n = refl
 
-no_end_cor : (xs : List End) → filter (has_code (codes "COR")) (flat_map zones_of_end xs) ≡ []
+no_end_cor : (xs : List EndData) → filter (has_code (codes "COR")) (flat_map zones_of_end xs) ≡ []
 unfolding zones_of_end
 no_end_cor xs = none_found (has_code (codes "COR")) (flat_map zones_of_end xs) (flat_mapped (λ z. has_code (codes "COR") z ≡ false) zones_of_end (λ e. (refl, mapped (λ z. has_code (codes "COR") z ≡ false) sns_zone (λ t. refl) (option_to_list e.sns))) xs)
 
-cor_found : (kind : Kind) (points : List Point) (ends : List End) → filter (has_code (codes "COR")) (zones_of_body kind points ends) ≡ map point_zone points
+cor_found : (kind : Kind) (points : List Point) (ends : List EndData) → filter (has_code (codes "COR")) (zones_of_body kind points ends) ≡ map point_zone points
 unfolding zones_of_body
 cor_found kind points ends =
     filter-append (has_code (codes "COR")) (count_zones kind (length points) (length ends)) _
@@ -362,7 +362,7 @@ points_stated s r h = go (has_points r.kind) refl
         ap (λ zs. map point_in (values (codes "COR") zs)) (record_is s r) ∙ ap (λ (zs : List ZoneData). map point_in (map (λ z. z.value) zs)) all ∙ points_again r.points h.points
     go false t = rw (h.no_points t) refl
 
-skip_count : (points : List Point) (xs : List End) (rest : List ZoneData) → points ≡ [] → ends (zones_of_body Lnk points xs ++ rest) ≡ ends (flat_map zones_of_end xs ++ rest)
+skip_count : (points : List Point) (xs : List EndData) (rest : List ZoneData) → points ≡ [] → ends (zones_of_body Lnk points xs ++ rest) ≡ ends (flat_map zones_of_end xs ++ rest)
 unfolding zones_of_body ends
 skip_count points xs rest e = rw e refl
 

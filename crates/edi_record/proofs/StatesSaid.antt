@@ -14,7 +14,7 @@ use Rattle.edi_record.specs.inner.Records.{ReadsAsRecord, Placed, zones_placed, 
 use Rattle.edi_record.specs.inner.Texts.{pointer, class_of, point_in}
 use Rattle.edi_record.specs.declared.name.Name.{Name}
 use Rattle.edi_record.specs.declared.record.Attribute.{Attribute}
-use Rattle.edi_record.specs.declared.record.End.{End}
+use Rattle.edi_record.specs.LinkEnds.{EndData}
 use Rattle.edi_record.specs.declared.record.Extra.{Extra}
 use Rattle.edi_record.specs.declared.record.Kind.{Kind}
 use Rattle.edi_record.specs.declared.record.Record.{Record}
@@ -111,10 +111,10 @@ attribute_read front z behind a h =
 abbrev sns_behind : List ZoneData → Option (List ℕ)
 sns_behind behind = first (values (codes "SNS") (before_first points_at behind))
 
-abbrev end_made : Option (List ℕ) → PointerText → End
+abbrev end_made : Option (List ℕ) → PointerText → EndData
 end_made sns p = record { lot = p.lot; subset = p.subset; target = record { rty = p.rty; rid = p.rid }; sns = sns }
 
-end_said : (front : List ZoneData) (z : ZoneData) (behind : List ZoneData) (x : End) → end_in z behind ≡ Some x → IsEndAt front z behind x
+end_said : (front : List ZoneData) (z : ZoneData) (behind : List ZoneData) (x : EndData) → end_in z behind ≡ Some x → IsEndAt front z behind x
 end_said front z behind x e = go (pointer z.value) refl e
   where
     go : (o : Option PointerText) → pointer z.value ≡ o → option_map (end_made (sns_behind behind)) o ≡ Some x → IsEndAt front z behind x
@@ -123,7 +123,7 @@ end_said front z behind x e = go (pointer z.value) refl e
         subst (IsEndAt front z behind) same (record { names = (pointer_is z.value p).0 q; sns = refl })
     go None q e = absurd cc
 
-end_read : (front : List ZoneData) (z : ZoneData) (behind : List ZoneData) (x : End) → IsEndAt front z behind x → end_in z behind ≡ Some x
+end_read : (front : List ZoneData) (z : ZoneData) (behind : List ZoneData) (x : EndData) → IsEndAt front z behind x → end_in z behind ≡ Some x
 end_read front z behind x h =
     ap (option_map (end_made (sns_behind behind))) ((pointer_is z.value (record { lot = x.lot; subset = x.subset; rty = x.target.rty; rid = x.target.rid })).1 h.names)
     ∙ ap (λ t. Some (end_made t (record { lot = x.lot; subset = x.subset; rty = x.target.rty; rid = x.target.rid }))) (sym h.sns)

@@ -2,6 +2,7 @@ pub mod Observers
 pub mod Bytes
 pub mod Texts
 pub mod Shapes
+pub mod LinkEnds
 pub mod Records
 pub mod AnyRecords
 pub mod RecordRules

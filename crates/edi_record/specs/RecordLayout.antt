@@ -22,7 +22,7 @@ use Rattle.edi_record.specs.declared.record.Attribute.{Attribute}
 use Rattle.edi_record.specs.declared.record.Extra.{Extra}
 use Rattle.edi_record.specs.declared.record.Value.{Value}
 use Rattle.edi_record.specs.declared.record.Value.TheVariants.{Number, Bytes}
-use Rattle.edi_record.specs.declared.record.End.{End}
+use Rattle.edi_record.specs.LinkEnds.{EndData}
 use Rattle.edi_record.specs.declared.record.Point.{Point}
 use Rattle.edi_record.specs.CanonicalZones.{value_text, type_zone, identifier_zone, class_zone, point_count_zone, point_zone, end_count_zone, target_zone, sns_zone, attribute_count_zone, attribute_zone, set_zone, value_zone, extra_zone, begin_zone, cse_zone, end_zone}
 
@@ -37,7 +37,7 @@ zones_of_attribute s a =
     ∷ map set_zone (option_to_list a.tex)
     ++ value_zone (s.letter a.atp) (value_of (s.is_number a.atp) a.atv) ∷ []
 
-unfoldable pub zones_of_end : End → List ZoneData
+unfoldable pub zones_of_end : EndData → List ZoneData
 zones_of_end e = target_zone e.target ∷ map sns_zone (option_to_list e.sns)
 
 -- the count of points or ends, where there is one
@@ -48,7 +48,7 @@ count_zones Pfe points ends = []
 count_zones Fea points ends = []
 count_zones Lnk points ends = end_count_zone ends ∷ []
 
-unfoldable pub zones_of_body : Kind → List Point → List End → List ZoneData
+unfoldable pub zones_of_body : Kind → List Point → List EndData → List ZoneData
 zones_of_body kind points ends =
     count_zones kind (length points) (length ends) ++ (map point_zone points ++ flat_map zones_of_end ends)
 
@@ -103,7 +103,7 @@ pub record IsRecord (r : Record) : Type 0 where
   pub extras : AllByRecursion (IsExtra r.kind) r.extras
 
 -- the end as it is written
-abbrev pub settled_end : End → End
+abbrev pub settled_end : EndData → EndData
 settled_end e = record { lot = codes "CANON"; subset = codes "S"; target = e.target; sns = e.sns }
 
 -- the attribute with its value as it is written
@@ -144,7 +144,7 @@ pub record IsLineExtra (e : Extra) : Type 0 where
   pub format : is_printable e.format ≡ true
   pub value : IsLineValue e.value
 
-pub record IsLineEnd (e : End) : Type 0 where
+pub record IsLineEnd (e : EndData) : Type 0 where
   pub target : IsLineName e.target
   pub sns : IfSome e.sns IsOneLine
 

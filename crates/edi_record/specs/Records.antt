@@ -16,7 +16,7 @@ use Rattle.edi_record.specs.declared.record.Attribute.{Attribute}
 use Rattle.edi_record.specs.declared.record.Extra.{Extra}
 use Rattle.edi_record.specs.declared.record.Value.{Value}
 use Rattle.edi_record.specs.declared.record.Value.TheVariants.{Number, Bytes}
-use Rattle.edi_record.specs.declared.record.End.{End}
+use Rattle.edi_record.specs.LinkEnds.{EndData}
 use Rattle.edi_record.specs.declared.sheet.Sheet.{Sheet}
 
 -- nodes and arcs
@@ -74,7 +74,7 @@ abbrev pub points_at : ZoneData → Bool
 points_at z = has_code (codes "FTP") z
 
 -- the end of an FTP: with the first SNS before the next FTP
-pub record IsEndAt (front : List ZoneData) (z : ZoneData) (behind : List ZoneData) (e : End) : Type 0 where
+pub record IsEndAt (front : List ZoneData) (z : ZoneData) (behind : List ZoneData) (e : EndData) : Type 0 where
   pub names : IsPointer z.value (record { lot = e.lot; subset = e.subset; rty = e.target.rty; rid = e.target.rid })
   pub sns : e.sns ≡ first (values (codes "SNS") (before_first points_at behind))
 

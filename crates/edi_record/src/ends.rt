@@ -9,15 +9,14 @@ ghost use Rattle.edi_record.specs.inner.Records.{ends};
 ghost use Rattle.edi_record.specs.inner.RecordRules.{kind_in, has_bad_end};
 ghost use Rattle.edi_record.specs.inner.RecordRefusal.{IsBreachOf};
 ghost use Rattle.edi_record.specs.inner.Stored.{Takes, StoresEnds, ended_with, kept_ends};
-ghost use Rattle.edi_record.specs.declared.record.End.{End as EndMade};
+ghost use Rattle.edi_record.specs.LinkEnds.{EndData};
 
 use crate::attributes::copied;
+use crate::end::End;
 use crate::fault::GroupFault;
 use crate::long_texts::LongTexts;
-use crate::name::Name;
 use crate::pointer::Pointer;
-use crate::record::{End, Kind};
-use edi_line::Text;
+use crate::record::Kind;
 use std::alloc::{AllocError, Global};
 
 /// An end whose SNS may still come. Its pointer and its SNS are borrowed from the zones.
@@ -38,44 +37,16 @@ impl<'a> OpenEnd<'a> {
         }) }
     {
         Ok(End {
-            lot: texts.text(self.pointer.lot)?,
-            subset: texts.text(self.pointer.subset)?,
-            target: self.pointer.name(texts)?,
+            start: texts.start(&self.pointer)?,
+            rid: texts.text(self.pointer.rid)?,
             sns: copied(texts.alloc, self.sense)?,
         })
     }
 }
 
-impl<'a> Pointer<'a> {
-    /// The end with this pointer and without SNS, which takes no memory. Nearly each end is such a one, and is made
-    /// without a way out.
-    fn short_end(self, alloc: Global) -> End
-        requires lot { length self.lot.now ≤ 14 }
-        requires subset { length self.subset.now ≤ 14 }
-        requires rty { length self.rty.now ≤ 14 }
-        requires rid { length self.rid.now ≤ 14 }
-        ensures { result ≡ record {
-          lot = self.entry.lot.now;
-          subset = self.entry.subset.now;
-          target = record { rty = self.entry.rty.now; rid = self.entry.rid.now };
-          sns = None;
-        } }
-    {
-        End {
-            lot: Text::short(alloc, self.lot),
-            subset: Text::short(alloc, self.subset),
-            target: Name {
-                rty: Text::short(alloc, self.rty),
-                rid: Text::short(alloc, self.rid),
-            },
-            sns: None,
-        }
-    }
-}
-
-/// Puts an end behind others, whatever its texts are.
+/// Puts an end behind others, with its SNS or without one.
 #[inline(never)]
-fn push_long(
+fn push_with_sense(
     ends: &mut Vec<End>,
     texts: &mut LongTexts,
     opened: &OpenEnd<'_>,
@@ -86,48 +57,9 @@ fn push_long(
     Ok(())
 }
 
-/// Puts the end with this pointer and without SNS behind others, for which there is room. Between making it and putting
-/// it there nothing can fail, so no place is made ready for it in between: that took a fifth of the instructions.
-fn push_short(ends: &mut Vec<End>, alloc: Global, pointer: Pointer<'_>)
-    requires lot { length pointer.lot.now ≤ 14 }
-    requires subset { length pointer.subset.now ≤ 14 }
-    requires rty { length pointer.rty.now ≤ 14 }
-    requires rid { length pointer.rid.now ≤ 14 }
-    requires room { vec_len ends.old < vec_capacity ends.old }
-    ensures { ends.new.items ≡ ends.old.items ++ ended_with (Some (record { pointer = pointer.entry; sense = None })) }
-{
-    ends.push_reserved(pointer.short_end(alloc));
-}
-
-/// Puts the end with this pointer and without SNS behind others. Of its texts the identifier alone may be long.
-#[inline(never)]
-fn push_named(
-    ends: &mut Vec<End>,
-    texts: &mut LongTexts,
-    pointer: Pointer<'_>,
-) -> Result<(), AllocError>
-    requires lot { length pointer.lot.now ≤ 14 }
-    requires subset { length pointer.subset.now ≤ 14 }
-    requires rty { length pointer.rty.now ≤ 14 }
-    ensures { OnOk result (ends.new.items
-        ≡ ends.old.items ++ ended_with (Some (record { pointer = pointer.entry; sense = None }))) }
-{
-    let rid = texts.text(pointer.rid)?;
-    ends.reserve(1)?;
-    ends.push_reserved(End {
-        lot: Text::short(texts.alloc, pointer.lot),
-        subset: Text::short(texts.alloc, pointer.subset),
-        target: Name {
-            rty: Text::short(texts.alloc, pointer.rty),
-            rid,
-        },
-        sns: None,
-    });
-    Ok(())
-}
-
-/// Puts an end behind others. A short one has a way of its own, since what other ends need would have to be made ready
-/// for each, and so has one of a long identifier. It stands apart, so that where no end is open nothing is made ready.
+/// Puts an end behind others. An end without SNS, as nearly each is, has a way of its own: what comes between making
+/// it and putting it there would have to be made ready for each. It stands apart, so that where no end is open
+/// nothing is made ready.
 #[inline(never)]
 fn push_end(
     ends: &mut Vec<End>,
@@ -136,14 +68,17 @@ fn push_end(
 ) -> Result<(), AllocError>
     ensures { OnOk result (ends.new.items ≡ ends.old.items ++ ended_with (Some opened.now)) }
 {
-    if opened.sense.is_some() || !opened.pointer.is_short_before_identifier() {
-        return push_long(ends, texts, opened);
-    }
-    if opened.pointer.rid.len() > Text::SHORT {
-        return push_named(ends, texts, opened.pointer);
+    if opened.sense.is_some() {
+        return push_with_sense(ends, texts, opened);
     }
     ends.reserve(1)?;
-    push_short(ends, texts.alloc, opened.pointer);
+    let rid = texts.text(opened.pointer.rid)?;
+    let start = texts.start(&opened.pointer)?;
+    ends.push_reserved(End {
+        start,
+        rid,
+        sns: None,
+    });
     Ok(())
 }
 
@@ -204,7 +139,7 @@ impl<'a> Ends<'a> {
 
     /// Takes an SNS.
     pub(crate) fn take_sense(&mut self, text: &'a [u8])
-        ensures { (done : List EndMade) → Takes StoresEnds (codes "SNS") text.entry.now (kept_ends self.old done)
+        ensures { (done : List EndData) → Takes StoresEnds (codes "SNS") text.entry.now (kept_ends self.old done)
             (kept_ends self.new done) }
     {
         let Some(opened) = self.opened else {

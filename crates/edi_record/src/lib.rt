@@ -8,6 +8,7 @@ pub mod blocks;
 pub mod broken;
 mod counts;
 mod draft;
+pub mod end;
 mod ends;
 mod extras;
 pub mod fault;
@@ -22,6 +23,7 @@ pub mod name;
 mod only;
 mod part_lists;
 pub mod pointer;
+mod pointer_starts;
 mod points;
 pub mod reading;
 pub mod record;
@@ -37,6 +39,7 @@ pub use any_record::AnyRecordRef;
 pub use blocks::Blocks;
 pub use broken::broken_records_from;
 pub use counts::is_count;
+pub use end::End;
 pub use fault::{RecordFault, SheetFault};
 pub use groups::{first_value, group_here, lacks_identifier};
 pub use list::{NoObserver, read_sheet, read_sheet_from, read_sheet_with};
@@ -48,7 +51,7 @@ pub use reading::{
     read_sheets_are_printable, records, records_are_read_again, records_are_unique,
     sheets_are_printable, stated_records_have_names,
 };
-pub use record::{Attribute, End, Extra, Kind, Point, Record, Value};
+pub use record::{Attribute, Extra, Kind, Point, Record, Value};
 pub use record_ref::RecordRef;
 pub use sheet::Sheet;
 pub use sheet_records::SheetRecords;

@@ -1,9 +1,12 @@
-//! Long texts that come again.
+//! Texts that come again: long ones, and the starts of pointers.
 
 ghost use Rattle.std.specs.Prelude.{◌≡◌, ◌<◌, ◌≤◌, length, IfOk, OnOk};
 
+use crate::pointer::Pointer;
+use crate::pointer_starts::{PointerStart, PointerStarts};
 use edi_line::Text;
 use std::alloc::{AllocError, Global};
+use std::sync::Arc;
 
 // How many long texts are kept.
 const SLOTS: usize = 1024;
@@ -25,6 +28,7 @@ pub(crate) struct LongTexts {
     pub(crate) alloc: Global,
     /// None before the first long text has come.
     slots: Vec<Text>,
+    starts: PointerStarts,
 }
 
 /// The slot of a text.
@@ -46,6 +50,7 @@ impl LongTexts {
         LongTexts {
             alloc,
             slots: Vec::new(alloc),
+            starts: PointerStarts::new(alloc),
         }
     }
 
@@ -66,6 +71,14 @@ impl LongTexts {
             return Ok(Text::short(self.alloc, bytes));
         }
         self.long_text(bytes)
+    }
+
+    /// The start of a pointer.
+    pub(crate) fn start(&mut self, pointer: &Pointer<'_>) -> Result<Arc<PointerStart>, AllocError>
+        ensures { IfOk result (λ start. start.value
+            ≡ record { lot = pointer.now.lot.now; subset = pointer.now.subset.now; rty = pointer.now.rty.now }) }
+    {
+        self.starts.start(self.alloc, pointer)
     }
 
     /// A text of these bytes, which shares the memory of the one in its slot where that has the same.

@@ -39,17 +39,6 @@ impl<'a> Pointer<'a> {
         })
     }
 
-    /// Whether its parts but for the identifier are short texts, which take no memory.
-    pub(crate) fn is_short_before_identifier(&self) -> bool
-        ensures lot { result ≡ true → length self.now.lot.now ≤ 14 }
-        ensures subset { result ≡ true → length self.now.subset.now ≤ 14 }
-        ensures rty { result ≡ true → length self.now.rty.now ≤ 14 }
-    {
-        self.lot.len() <= Text::SHORT
-            && self.subset.len() <= Text::SHORT
-            && self.rty.len() <= Text::SHORT
-    }
-
     /// The name of what it points at. One of short texts takes no memory, and is made without a way out.
     pub(crate) fn name(self, texts: &mut LongTexts) -> Result<Name, AllocError>
         ensures { IfOk result (λ n. n ≡ record { rty = self.entry.rty.now; rid = self.entry.rid.now }) }

@@ -5,6 +5,7 @@ ghost use Rattle.edi_record.specs.Records.{has_points as kind_has_points, is_lin
 ghost use Rattle.edi_record.specs.inner.RecordRules.{is_arc_kind};
 ghost use Rattle.edi_record.specs.Shapes.{kind_code, may_have_points as may_have_so_many};
 
+use crate::end::End;
 use crate::name::Name;
 use edi_line::{Num, Sequence, Text};
 use std::alloc::AllocError;
@@ -157,27 +158,6 @@ impl Extra {
             format: self.format,
             value,
         })
-    }
-}
-
-/// An end of a link.
-pub struct End {
-    pub lot: Text,
-    pub subset: Text,
-    pub target: Name,
-    pub sns: Option<Text>,
-}
-
-impl Drop for End {
-    // Where a block's ends are let go a call for each would take a third of the instructions.
-    #[inline(always)]
-    fn drop(self) {
-        let End {
-            lot: _,
-            subset: _,
-            target: _,
-            sns: _,
-        } = self;
     }
 }
 

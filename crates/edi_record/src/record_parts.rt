@@ -2,10 +2,11 @@
 
 ghost use Rattle.edi_record.specs.inner.RecordParts.{AreEmpty};
 
+use crate::end::End;
 use crate::flat_lists::empty;
 use crate::long_texts::LongTexts;
 use crate::name::Name;
-use crate::record::{Attribute, End, Extra, Kind, Point};
+use crate::record::{Attribute, Extra, Kind, Point};
 use edi_line::Text;
 use std::alloc::Global;
 

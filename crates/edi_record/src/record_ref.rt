@@ -5,8 +5,9 @@ ghost use Rattle.edi_record.specs.AnyRecords.{record_lent};
 ghost use Rattle.edi_record.specs.inner.RecordParts.{record_with_parts};
 
 use crate::any_record::AnyRecordRef;
+use crate::end::End;
 use crate::name::Name;
-use crate::record::{Attribute, End, Extra, Kind, Point, Record};
+use crate::record::{Attribute, Extra, Kind, Point, Record};
 use crate::record_parts::RecordHead;
 use edi_line::Text;
 use std::marker::Model;

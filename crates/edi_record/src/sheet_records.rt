@@ -5,7 +5,8 @@ ghost use Rattle.edi_record.specs.Shapes.{stated_at};
 ghost use Rattle.edi_record.specs.inner.RecordParts.{whole};
 
 use crate::blocks::Blocks;
-use crate::record::{Attribute, End, Kind};
+use crate::end::End;
+use crate::record::{Attribute, Kind};
 use crate::record_parts::{RecordHead, RecordParts};
 use crate::record_ref::RecordRef;
 use crate::sheet_rest::SheetRest;

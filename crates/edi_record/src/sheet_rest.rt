@@ -6,7 +6,8 @@ ghost use Rattle.edi_record.specs.inner.SheetRest.{all_ahead, AreAhead};
 
 use crate::block::Block;
 use crate::blocks::Blocks;
-use crate::record::{Attribute, End};
+use crate::end::End;
+use crate::record::Attribute;
 use crate::record_parts::RecordHead;
 use crate::record_ref::RecordRef;
 use std::alloc::Global;

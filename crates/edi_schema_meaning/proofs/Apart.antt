@@ -5,7 +5,7 @@ use Rattle.std.proofs.lemmas.Option.{none-some, same_Some}
 use Rattle.edi_line.specs.Refusal.{IsUnbroken}
 use Rattle.edi_record.specs.Shapes.{kind_rank}
 use Rattle.edi_record.specs.declared.name.Name.{Name}
-use Rattle.edi_record.specs.declared.record.End.{End}
+use Rattle.edi_record.specs.LinkEnds.{EndData}
 use Rattle.edi_record.specs.declared.record.Kind.{Kind}
 use Rattle.edi_record.specs.declared.record.Kind.TheVariants.{Pno, Par, Pfe, Lnk}
 use Rattle.edi_record.specs.declared.record.Record.{Record}
@@ -40,7 +40,7 @@ use Rattle.edi_schema_meaning.proofs.Told.{first_is, link_least, not_wrong, plac
 use Rattle.edi_schema_meaning.specs.Probes.{arc_of, end_at, join_records, link_of, loop_records, node_of, node_records, plain_letters, probe, spot, start_records}
 
 -- what an end names is one record
-names_one : (s : Classes) (list : List Record) (e : End) (place k : ℕ) (kind : Kind) (q : Record) → place_named list e.target ≡ Some k → slice_get list k ≡ Some q → Names s list e place kind → q.kind ≡ kind
+names_one : (s : Classes) (list : List Record) (e : EndData) (place k : ℕ) (kind : Kind) (q : Record) → place_named list e.target ≡ Some k → slice_get list k ≡ Some q → Names s list e place kind → q.kind ≡ kind
 names_one s list e place k kind q named there h =
     let at : k ≡ place = same_Some k place (sym named ∙ h.1) in
     let one : q ≡ h.0 = same_Some q h.0 (sym there ∙ (ap (slice_get list) at ∙ h.2)) in
@@ -60,10 +60,10 @@ not_unknown s list r rest is k known (repeats_side e h) = omega (arith, e)
 pub lone : (cse : Option (List ℕ)) (q : PlanRecord) → IsUnbroken (BreaksObjectRule (record { cse = cse; list = q ∷ [] }))
 lone cse q rule at (repeats_object e a less h) = let second = h.second in omega (arith, less, second)
 
-head_same : (a b c d : End) → a ∷ b ∷ [] ≡ c ∷ d ∷ [] → (a ≡ c) × (b ≡ d)
+head_same : (a b c d : EndData) → a ∷ b ∷ [] ≡ c ∷ d ∷ [] → (a ≡ c) × (b ≡ d)
 head_same a b c d h = (cc, cc)
 
-front_same : (a c : End) (xs ys : List End) → a ∷ xs ≡ c ∷ ys → a ≡ c
+front_same : (a c : EndData) (xs ys : List EndData) → a ∷ xs ≡ c ∷ ys → a ≡ c
 front_same a c xs ys h = cc
 
 node_arc : Pno ≡ Par → ⊥

@@ -7,7 +7,7 @@ use Rattle.std.proofs.lemmas.Option.{none-some, same_Some}
 use Rattle.edi_line.specs.Refusal.{IsLeastBroken}
 use Rattle.edi_record.specs.Texts.{HasNoSemicolon}
 use Rattle.edi_record.specs.declared.name.Name.{Name}
-use Rattle.edi_record.specs.declared.record.End.{End}
+use Rattle.edi_record.specs.LinkEnds.{EndData}
 use Rattle.edi_record.specs.declared.record.Kind.{Kind}
 use Rattle.edi_record.specs.declared.record.Kind.TheVariants.{Pno, Pfe, Lnk}
 use Rattle.edi_record.specs.declared.record.Record.{Record}
@@ -156,7 +156,7 @@ module _ (s : Classes) (list : List Record) (r : Record) (rest : List Record) (i
   here = (omega arith, ap (λ l. slice_get l 0) is)
 
   -- nothing before 306 is broken there, where its class is known, it has no attributes, and its ends are records that are no links
-  pub link_least : (k : ℕ) → place_of s r.scp ≡ Some k → r.attributes ≡ [] → (lot subset : List ℕ) → ((e : End) (others : List End) → Rattle.std.specs.Prelude.flat_map (λ q. q.ends) list ≡ e ∷ others → (e.lot ≡ lot) × (e.subset ≡ subset))
+  pub link_least : (k : ℕ) → place_of s r.scp ≡ Some k → r.attributes ≡ [] → (lot subset : List ℕ) → ((e : EndData) (others : List EndData) → Rattle.std.specs.Prelude.flat_map (λ q. q.ends) list ≡ e ∷ others → (e.lot ≡ lot) × (e.subset ≡ subset))
       → AllByRecursion (λ e. (e.lot ≡ lot) × (e.subset ≡ subset)) r.ends
       → AllByRecursion (λ e. (place : ℕ) × (kind : Kind) × Names s list e place kind × (kind ≢ Lnk)) r.ends → (rule : ℕ) → BreaksReferenceRule s list rule 1 → 306 ≤ rule
   link_least k known bare lot subset first all ends rule (repeats_name e h) = let less = h.3 in let low = h.4.0 in absurd (omega (arith, less, low))
@@ -169,7 +169,7 @@ module _ (s : Classes) (list : List Record) (r : Record) (rest : List Record) (i
       absurd (any_absurd (λ d. (d.lot ≢ h.1.lot) ⊎ (d.subset ≢ h.1.subset)) r.ends (same_all r.ends all h.1 top)
       (subst (λ q. Any (λ d. (d.lot ≢ h.1.lot) ⊎ (d.subset ≢ h.1.subset)) q.ends) (sym (first_is h.0 h.3)) h.5))
     where
-      same_all : (es : List End) → AllByRecursion (λ e. (e.lot ≡ lot) × (e.subset ≡ subset)) es → (d : End) → (d.lot ≡ lot) × (d.subset ≡ subset)
+      same_all : (es : List EndData) → AllByRecursion (λ e. (e.lot ≡ lot) × (e.subset ≡ subset)) es → (d : EndData) → (d.lot ≡ lot) × (d.subset ≡ subset)
           → AllByRecursion (λ e. ¬ ((e.lot ≢ d.lot) ⊎ (e.subset ≢ d.subset))) es
       same_all [] none d top = tt
       same_all (x ∷ es) some d top = (one, same_all es some.1 d top)
@@ -181,7 +181,7 @@ module _ (s : Classes) (list : List Record) (r : Record) (rest : List Record) (i
       absurd (any_absurd (λ d. (place : ℕ) (kind : Kind) → Names s list d place kind → kind ≡ Lnk) r.ends (each r.ends ends)
       (subst (λ q. Any (λ d. (place : ℕ) (kind : Kind) → Names s list d place kind → kind ≡ Lnk) q.ends) (sym (first_is h.0 h.1)) h.2))
     where
-      each : (es : List End) → AllByRecursion (λ e. (place : ℕ) × (kind : Kind) × Names s list e place kind × (kind ≢ Lnk)) es
+      each : (es : List EndData) → AllByRecursion (λ e. (place : ℕ) × (kind : Kind) × Names s list e place kind × (kind ≢ Lnk)) es
           → AllByRecursion (λ e. ¬ ((place : ℕ) (kind : Kind) → Names s list e place kind → kind ≡ Lnk)) es
       each [] none = tt
       each (x ∷ es) some = (λ only. some.0.3 (only some.0.0 some.0.1 some.0.2), each es some.1)

@@ -4,7 +4,7 @@ use Rattle.edi_record.specs.RecordLayout.{Letters, records_layout}
 use Rattle.edi_record.specs.Shapes.{kind_code}
 use Rattle.edi_record.specs.declared.name.Name.{Name}
 use Rattle.edi_record.specs.declared.record.Attribute.{Attribute}
-use Rattle.edi_record.specs.declared.record.End.{End}
+use Rattle.edi_record.specs.LinkEnds.{EndData}
 use Rattle.edi_record.specs.declared.record.Kind.{Kind}
 use Rattle.edi_record.specs.declared.record.Kind.TheVariants.{Pno, Par, Pfe, Lnk}
 use Rattle.edi_record.specs.declared.record.Point.{Point}
@@ -17,7 +17,7 @@ abbrev pub spot : ℕ → ℕ → Point
 spot x y = record { x = pos x; y = pos y; z = None }
 
 -- an end at a record of this type and identifier
-abbrev pub end_at : Kind → List ℕ → End
+abbrev pub end_at : Kind → List ℕ → EndData
 end_at kind rid = record {
   lot = codes "CANON";
   subset = codes "S";
@@ -30,7 +30,7 @@ abbrev pub valued : Name → List ℕ → Attribute
 valued class value = record { atp = class; tex = None; atv = value }
 
 -- a record of the class with these points, ends and attributes
-abbrev pub record_of : Kind → Name → List ℕ → List Point → List End → List Attribute → Record
+abbrev pub record_of : Kind → Name → List ℕ → List Point → List EndData → List Attribute → Record
 record_of kind class rid points ends attributes = record {
   kind = kind;
   rid = rid;
@@ -51,7 +51,7 @@ arc_of class rid = record_of Par class rid (spot 0 0 ∷ spot 1 0 ∷ []) [] []
 abbrev pub face_of : Name → List ℕ → Record
 face_of class rid = record_of Pfe class rid [] [] []
 
-abbrev pub link_of : Name → List ℕ → End → End → Record
+abbrev pub link_of : Name → List ℕ → EndData → EndData → Record
 link_of class rid a b = record_of Lnk class rid [] (a ∷ b ∷ []) []
 
 -- ---- sheets

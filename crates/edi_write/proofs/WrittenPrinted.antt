@@ -37,7 +37,7 @@ use Rattle.edi_record.specs.Texts.{is_semicolon}
 use Rattle.edi_record.specs.declared.name.Name.{Name}
 use Rattle.edi_record.specs.declared.record.Kind.{Kind}
 use Rattle.edi_record.specs.declared.record.Kind.TheVariants.{Pno, Par, Pfe, Fea, Lnk}
-use Rattle.edi_record.specs.declared.record.End.{End}
+use Rattle.edi_record.specs.LinkEnds.{EndData}
 use Rattle.edi_record.specs.declared.record.Point.{Point}
 use Rattle.edi_record.specs.declared.record.Attribute.{Attribute}
 use Rattle.edi_record.specs.declared.record.Record.{Record}
@@ -170,7 +170,7 @@ end_lines s q whole (e ∷ es) lines =
     )
 
 -- the SNS of the ends that were read
-senses_read : (list : List Record) (ds : List End) (es : List PlanEnd) → AllByRecursion IsLineEnd ds → AllZip (StatesPlanEnd list) ds es → AllByRecursion (λ e. IfSome e.sns IsOneLine) es
+senses_read : (list : List Record) (ds : List EndData) (es : List PlanEnd) → AllByRecursion IsLineEnd ds → AllZip (StatesPlanEnd list) ds es → AllByRecursion (λ e. IfSome e.sns IsOneLine) es
 senses_read list [] [] lines all = tt
 senses_read list [] (e ∷ es) lines all = absurd all
 senses_read list (d ∷ ds) [] lines all = absurd all

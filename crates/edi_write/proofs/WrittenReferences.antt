@@ -6,7 +6,7 @@ use Rattle.std.proofs.lemmas.Option.{same_Some, none-some}
 use Rattle.edi_line.specs.Refusal.{IsUnbroken}
 use Rattle.edi_record.specs.RecordLayout.{settled, settled_end, settled_record}
 use Rattle.edi_record.specs.declared.record.Attribute.{Attribute}
-use Rattle.edi_record.specs.declared.record.End.{End}
+use Rattle.edi_record.specs.LinkEnds.{EndData}
 use Rattle.edi_record.specs.declared.record.Kind.{Kind}
 use Rattle.edi_record.specs.declared.record.Kind.TheVariants.{Pno, Par, Pfe, Lnk}
 use Rattle.edi_record.specs.declared.record.Record.{Record}
@@ -117,7 +117,7 @@ module _ (s : Classes) (p : PlanData) (keeps : IsSchema s) (whole : IsWholePlan 
 
   -- ---- ends
 
-  abbrev IsOurs : End → Type 0
+  abbrev IsOurs : EndData → Type 0
   IsOurs e = (e.lot ≡ codes "CANON") × (e.subset ≡ codes "S")
 
   ours : (es : List PlanEnd) → AllByRecursion IsOurs (map settled_end (map (written_end s p) es))
@@ -127,7 +127,7 @@ module _ (s : Classes) (p : PlanData) (keeps : IsSchema s) (whole : IsWholePlan 
   all_ours : AllByRecursion (λ (r : Record). AllByRecursion IsOurs r.ends) list
   all_ours = all_found (λ (r : Record). AllByRecursion IsOurs r.ends) list (λ k r e. subst (λ (x : Record). AllByRecursion IsOurs x.ends) (sym (read_back s p k r e).1) (ours (record_at p k).ends))
 
-  one_subset : (e d : End) → IsOurs e → IsOurs d → ((d.lot ≢ e.lot) ⊎ (d.subset ≢ e.subset)) → ⊥
+  one_subset : (e d : EndData) → IsOurs e → IsOurs d → ((d.lot ≢ e.lot) ⊎ (d.subset ≢ e.subset)) → ⊥
   one_subset e d is is' (inl other) = other (is'.0 ∙ sym is.0)
   one_subset e d is is' (inr other) = other (is'.1 ∙ sym is.1)
 
@@ -139,24 +139,24 @@ module _ (s : Classes) (p : PlanData) (keeps : IsSchema s) (whole : IsWholePlan 
       (subst (λ (x : Record). AllByRecursion IsOurs x.ends) (sym r.1) (ours (record_at p (at - 1)).ends)) h.5
 
   -- the name of a place names the record there
-  names_place : (e : End) (k : ℕ) (kind : Kind) → IsPlace p k → e.target ≡ name_in s p k → (record_at p k).kind ≡ kind → Names s list e k kind
+  names_place : (e : EndData) (k : ℕ) (kind : Kind) → IsPlace p k → e.target ≡ name_in s p k → (record_at p k).kind ≡ kind → Names s list e k kind
   names_place e k kind h is of_kind = (read_record s p k, ap (place_named list) is ∙ read_named s p whole k h, read_at s p k h, of_kind)
 
   -- and nothing else
-  place_is : (e : End) (k a : ℕ) (kind : Kind) → IsPlace p k → e.target ≡ name_in s p k → Names s list e a kind → (a ≡ k) × ((record_at p k).kind ≡ kind)
+  place_is : (e : EndData) (k a : ℕ) (kind : Kind) → IsPlace p k → e.target ≡ name_in s p k → Names s list e a kind → (a ≡ k) × ((record_at p k).kind ≡ kind)
   place_is e k a kind h is names =
       let same : a ≡ k = same_Some a k (sym names.1 ∙ (ap (place_named list) is ∙ read_named s p whole k h)) in
       let there = subst (λ j. slice_get list j ≡ Some names.0) same names.2 in
       (same, ap (λ (r : Record). r.kind) (sym (read_back s p k names.0 there).1) ∙ names.3)
 
-  abbrev NamesRecord : End → Type 0
+  abbrev NamesRecord : EndData → Type 0
   NamesRecord e = (k : ℕ) × IsPlace p k × (e.target ≡ name_in s p k) × (is_link (record_at p k).kind ≡ false)
 
   named : (es : List PlanEnd) → AllByRecursion (λ e. IsPlace p e.target) es → AllByRecursion (λ e. is_link (record_at p e.target).kind ≡ false) es → AllByRecursion NamesRecord (map settled_end (map (written_end s p) es))
   named [] there none = tt
   named (e ∷ es) there none = ((e.target, there.0, refl, none.0), named es there.1 none.1)
 
-  unnamed : (e : End) → NamesRecord e → ((place : ℕ) (kind : Kind) → Names s list e place kind → kind ≡ Lnk) → ⊥
+  unnamed : (e : EndData) → NamesRecord e → ((place : ℕ) (kind : Kind) → Names s list e place kind → kind ≡ Lnk) → ⊥
   unnamed e is only =
       let link : (record_at p is.0).kind ≡ Lnk = only is.0 (record_at p is.0).kind (names_place e is.0 (record_at p is.0).kind is.1 is.2 refl) in
       true≢false (sym (ap is_link link) ∙ is.3)
@@ -255,11 +255,11 @@ module _ (s : Classes) (p : PlanData) (keeps : IsSchema s) (whole : IsWholePlan 
             which : (i : ℕ) → i < length (read_record s p k).ends → get_or (read_record s p k).ends i some.1 ≡ some.1 → ((a ≡ x.target) × ((record_at p a).kind ≡ Par)) ⊎ ((a ≡ y.target) × ((record_at p a).kind ≡ Par))
             which zero within at =
                 let end : written_end s p x ≡ some.1 = sym (ap (λ es. get_or es 0 some.1) (read_two k x y e)) ∙ at in
-                let is_it = place_is some.1 x.target a Par there.0 (ap (λ (z : End). z.target) (sym end)) some.4 in
+                let is_it = place_is some.1 x.target a Par there.0 (ap (λ (z : EndData). z.target) (sym end)) some.4 in
                 inl (is_it.0, ap (λ j. (record_at p j).kind) is_it.0 ∙ is_it.1)
             which (suc zero) within at =
                 let end : written_end s p y ≡ some.1 = sym (ap (λ es. get_or es 1 some.1) (read_two k x y e)) ∙ at in
-                let is_it = place_is some.1 y.target a Par there.1 (ap (λ (z : End). z.target) (sym end)) some.4 in
+                let is_it = place_is some.1 y.target a Par there.1 (ap (λ (z : EndData). z.target) (sym end)) some.4 in
                 inr (is_it.0, ap (λ j. (record_at p j).kind) is_it.0 ∙ is_it.1)
             which (suc (suc i)) within at = let long = ap length (read_two k x y e) in absurd (omega (arith, within, long))
 

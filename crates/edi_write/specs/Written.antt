@@ -6,7 +6,7 @@ use Rattle.edi_record.specs.CanonicalZones.{value_text}
 use Rattle.edi_record.specs.RecordLayout.{Letters, IsName, IsLineName, IsRecord, IsLineRecord, FollowsRules}
 use Rattle.edi_record.specs.declared.record.Record.{Record}
 use Rattle.edi_record.specs.declared.record.Attribute.{Attribute}
-use Rattle.edi_record.specs.declared.record.End.{End}
+use Rattle.edi_record.specs.LinkEnds.{EndData}
 use Rattle.edi_record.specs.declared.name.Name.{Name}
 use Rattle.edi_schema.specs.Classes.{Classes, letter_named, is_number_named, role_of, partner_of}
 use Rattle.edi_schema.specs.Roles.{is_plain}
@@ -26,7 +26,7 @@ abbrev pub written_attribute : Classes → PlanAttribute → Attribute
 written_attribute s a = record { atp = class_name_of s a.atp; tex = a.tex; atv = value_text a.value }
 
 -- an end as it is written: the name of the record that it ends at, and its SNS
-abbrev pub written_end : Classes → PlanData → PlanEnd → End
+abbrev pub written_end : Classes → PlanData → PlanEnd → EndData
 written_end s p e = record { lot = codes "CANON"; subset = codes "S"; target = name_in s p e.target; sns = e.sns }
 
 -- a record of the plan as it is written, with this number

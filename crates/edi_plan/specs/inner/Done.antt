@@ -1,6 +1,6 @@
 -- What is known of the records of a sheet up to a place.
 use Rattle.std.specs.Prelude.{◌≡◌, ◌⊎◌, ℕ, suc, ◌<◌, false, List, [], ◌∷◌, slice_get, Option, Some, MatchOption, length}
-use Rattle.edi_record.specs.declared.record.End.{End}
+use Rattle.edi_record.specs.LinkEnds.{EndData}
 use Rattle.edi_record.specs.declared.record.Kind.TheVariants.{Par}
 use Rattle.edi_record.specs.declared.record.Record.{Record}
 use Rattle.edi_schema.specs.Classes.{Classes}
@@ -14,8 +14,8 @@ use Rattle.edi_schema.specs.declared.by_role.ByRole.{ByRole}
 module _ (s : Classes) (list : List Record) where
   -- the two ends of a link name an arc and what is beside it by a role
   pub record JoinsIn (r : Record) (role : Role) (a x : ℕ) : Type 0 where
-    pub to_arc : End
-    pub to_other : End
+    pub to_arc : EndData
+    pub to_other : EndData
     pub ends : (r.ends ≡ to_arc ∷ to_other ∷ []) ⊎ (r.ends ≡ to_other ∷ to_arc ∷ [])
     pub arc : Names s list to_arc a Par
     pub other : Names s list to_other x (beside role)

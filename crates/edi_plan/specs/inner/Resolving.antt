@@ -4,7 +4,7 @@ use Rattle.std.specs.Str.{bytes_eq}
 use Rattle.std.specs.List.{AllZip, list_any}
 use Rattle.edi_line.specs.Refusal.{Test, test}
 use Rattle.edi_record.specs.declared.record.Attribute.{Attribute}
-use Rattle.edi_record.specs.declared.record.End.{End}
+use Rattle.edi_record.specs.LinkEnds.{EndData}
 use Rattle.edi_record.specs.declared.record.Record.{Record}
 use Rattle.edi_schema.specs.Classes.{Classes, place_of, role_named}
 use Rattle.edi_schema.specs.declared.role.Role.{Role}
@@ -43,10 +43,10 @@ pub record Resolves (s : Classes) (a : Attribute) (p : PlanAttribute) : Type 0 w
   pub states : StatesPlanAttribute s a p
 
 -- an end of another lot or subset
-unfoldable pub is_elsewhere : Subset → End → Bool
+unfoldable pub is_elsewhere : Subset → EndData → Bool
 is_elsewhere x e = not (bytes_eq e.lot x.lot) || not (bytes_eq e.subset x.subset)
 
-abbrev pub leaves : Option Subset → List End → Bool
+abbrev pub leaves : Option Subset → List EndData → Bool
 leaves None ends = false
 leaves (Some x) ends = list_any (is_elsewhere x) ends
 
@@ -55,11 +55,11 @@ abbrev pub first_subset : List Record → Option Subset
 first_subset list = option_map (λ e. record { lot = e.lot; subset = e.subset }) (first_of (flat_map (λ r. r.ends) list))
 
 -- an end with its target, as the plan has it
-abbrev pub GivesEnd : Option Target → End → PlanEnd → Type 0
+abbrev pub GivesEnd : Option Target → EndData → PlanEnd → Type 0
 GivesEnd None e p = ⊥
 GivesEnd (Some t) e p = (p.target ≡ t.place) × (p.sns ≡ e.sns)
 
-abbrev pub AreGiven : List (Option Target) → List End → List PlanEnd → Type 0
+abbrev pub AreGiven : List (Option Target) → List EndData → List PlanEnd → Type 0
 AreGiven [] [] [] = ⊤
 AreGiven [] [] (p ∷ ps) = ⊥
 AreGiven [] (e ∷ es) ps = ⊥

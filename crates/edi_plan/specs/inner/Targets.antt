@@ -3,7 +3,7 @@ use Rattle.std.specs.Prelude.{◌≡◌, ℕ, false, List, flat_map, codes, Opti
 use Rattle.std.specs.Str.{bytes_eq}
 use Rattle.std.specs.List.{AllZip}
 use Rattle.edi_record.specs.declared.name.Name.{Name}
-use Rattle.edi_record.specs.declared.record.End.{End}
+use Rattle.edi_record.specs.LinkEnds.{EndData}
 use Rattle.edi_record.specs.declared.record.Kind.{Kind}
 use Rattle.edi_record.specs.declared.record.Kind.TheVariants.{Pno, Par, Pfe, Fea}
 use Rattle.edi_record.specs.declared.record.Record.{Record}
@@ -20,7 +20,7 @@ target_kind code =
     if bytes_eq code (codes "FEA") then Some Fea else None
 
 -- the end names this record, which is no link
-pub record Leads (list : List Record) (e : End) (t : Target) : Type 0 where
+pub record Leads (list : List Record) (e : EndData) (t : Target) : Type 0 where
   pub there : Record
   pub named : place_named list e.target ≡ Some t.place
   pub here : slice_get list t.place ≡ Some there
@@ -34,7 +34,7 @@ pub record HasNameAt (list : List Record) (name : Name) (place : ℕ) : Type 0 w
   pub is : own_name there ≡ name
 
 -- what the end names, or it names no node, arc, face or object
-abbrev pub IsTargetIfAny : List Record → End → Option Target → Type 0
+abbrev pub IsTargetIfAny : List Record → EndData → Option Target → Type 0
 IsTargetIfAny list e found = MatchOption found ((t : Target) → ¬ (Leads list e t)) (Leads list e)
 
 -- what the ends of some of the records name

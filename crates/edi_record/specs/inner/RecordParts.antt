@@ -2,7 +2,7 @@
 use Rattle.std.specs.Prelude.{◌≡◌, List, [], map}
 use Rattle.edi_record.specs.AnyRecords.{AnyRecord, any_record}
 use Rattle.edi_record.specs.declared.record.Attribute.{Attribute}
-use Rattle.edi_record.specs.declared.record.End.{End}
+use Rattle.edi_record.specs.LinkEnds.{EndData}
 use Rattle.edi_record.specs.declared.record.Record.{Record}
 use Rattle.edi_record.specs.declared.record_parts.RecordHead.{RecordHead}
 use Rattle.edi_record.specs.declared.record_parts.RecordParts.{RecordParts}
@@ -15,7 +15,7 @@ pub record AreEmpty (p : RecordParts) : Type 0 where
   pub extras : p.extras.items ≡ []
 
 -- the record with a head and parts
-abbrev pub record_with_parts : AnyRecord RecordHead Attribute End → Record
+abbrev pub record_with_parts : AnyRecord RecordHead Attribute EndData → Record
 record_with_parts e = record {
   kind = e.head.kind;
   rid = e.head.rid;
@@ -27,7 +27,7 @@ record_with_parts e = record {
 }
 
 -- these records in their order
-abbrev pub records_with_parts : List (AnyRecord RecordHead Attribute End) → List Record
+abbrev pub records_with_parts : List (AnyRecord RecordHead Attribute EndData) → List Record
 records_with_parts es = map record_with_parts es
 
 -- the record with this head and these parts

@@ -10,7 +10,7 @@ use Rattle.edi_record.specs.declared.record.Attribute.{Attribute}
 use Rattle.edi_record.specs.declared.record.Extra.{Extra}
 use Rattle.edi_record.specs.declared.record.Value.{Value}
 use Rattle.edi_record.specs.declared.record.Value.TheVariants.{Number, Bytes}
-use Rattle.edi_record.specs.declared.record.End.{End}
+use Rattle.edi_record.specs.LinkEnds.{EndData}
 use Rattle.edi_record.specs.Records.{has_points, is_link, values, opens, closes, points_at, is_known, may_be_number}
 
 -- the one of a list, where there is just one
@@ -43,12 +43,12 @@ unfoldable pub sns_after : List ZoneData → Option (List ℕ)
 sns_after [] = None
 sns_after (z ∷ zs) = if points_at z then None else (if has_code (codes "SNS") z then Some z.value else sns_after zs)
 
-abbrev pub end_with_sense : List ℕ → Option (List ℕ) → Option End
+abbrev pub end_with_sense : List ℕ → Option (List ℕ) → Option EndData
 end_with_sense text sns =
     option_map (λ p. record { lot = p.lot; subset = p.subset; target = record { rty = p.rty; rid = p.rid }; sns = sns })
     (pointer text)
 
-unfoldable pub ends : List ZoneData → List (Option End)
+unfoldable pub ends : List ZoneData → List (Option EndData)
 ends [] = []
 ends (z ∷ zs) = if points_at z then end_with_sense z.value (sns_after zs) ∷ ends zs else ends zs
 

@@ -5,13 +5,13 @@ use Rattle.std.specs.List.{AllByRecursion}
 use Rattle.std.specs.Vec.Iter.{into_iter_items}
 use Rattle.edi_record.specs.AnyRecords.{AnyRecord}
 use Rattle.edi_record.specs.declared.record.Attribute.{Attribute}
-use Rattle.edi_record.specs.declared.record.End.{End}
+use Rattle.edi_record.specs.LinkEnds.{EndData}
 use Rattle.edi_record.specs.declared.record_parts.RecordHead.{RecordHead}
 use Rattle.edi_record.specs.declared.sheet_rest.BlocksAhead.{BlocksAhead}
 use Rattle.edi_record.specs.inner.BlockLists.{blocks_joined, IsFull}
 
 -- the records of the blocks ahead, in their order
-abbrev pub all_ahead : BlocksAhead → List (AnyRecord RecordHead Attribute End)
+abbrev pub all_ahead : BlocksAhead → List (AnyRecord RecordHead Attribute EndData)
 all_ahead ahead = blocks_joined (into_iter_items ahead.closed) ahead.last
 
 -- all blocks ahead but the last are full
@@ -19,7 +19,7 @@ abbrev pub AreAhead : BlocksAhead → Type 0
 AreAhead ahead = AllByRecursion IsFull (into_iter_items ahead.closed)
 
 -- the place is that of a record of the block, unless no records are left
-pub record IsUnderWay (ahead : BlocksAhead) (block : List (AnyRecord RecordHead Attribute End)) (place : ℕ) : Type 0 where
+pub record IsUnderWay (ahead : BlocksAhead) (block : List (AnyRecord RecordHead Attribute EndData)) (place : ℕ) : Type 0 where
   pub blocks : AreAhead ahead
   pub within : place ≤ length block
   pub none : length block ≤ place → all_ahead ahead ≡ []

@@ -9,7 +9,7 @@ use Rattle.edi_record.specs.inner.RecordRules.{is_arc_kind, count_until, repeats
 use Rattle.edi_record.specs.declared.record.Kind.{Kind}
 use Rattle.edi_record.specs.declared.record.Kind.TheVariants.{Pno, Par, Pfe, Fea, Lnk}
 use Rattle.edi_record.specs.declared.record.Attribute.{Attribute}
-use Rattle.edi_record.specs.declared.record.End.{End}
+use Rattle.edi_record.specs.LinkEnds.{EndData}
 use Rattle.edi_record.specs.declared.record.Extra.{Extra}
 use Rattle.edi_record.specs.declared.role.ZoneRole.{ZoneRole}
 use Rattle.edi_record.specs.declared.role.ZoneRole.TheVariants.{Identifier, Class, AttributeCount, AttributeClass, AttributeSet, AttributeValue, BodyCount, Position, EndPointer, EndSense, Skipped, Unknown}
@@ -81,11 +81,11 @@ kept_points p list = record { list = list; is_broken = p.is_broken }
 
 -- the ends that are done, beside the one that is open
 pub record KeptEnds : Type 0 where
-  pub done : List End
+  pub done : List EndData
   pub opened : Option OpenEnd
   pub is_broken : Bool
 
-abbrev pub kept_ends : Ends → List End → KeptEnds
+abbrev pub kept_ends : Ends → List EndData → KeptEnds
 kept_ends e done = record { done = done; opened = e.opened; is_broken = e.is_broken }
 
 pub record KeptExtras : Type 0 where
@@ -189,7 +189,7 @@ abbrev pub sns_come : OpenEnd → Option (List ℕ)
 sns_come opened = option_map (λ s. s.now) opened.sense
 
 -- the end with its SNS
-abbrev pub end_with : OpenEnd → Option (List ℕ) → End
+abbrev pub end_with : OpenEnd → Option (List ℕ) → EndData
 end_with opened sns = record {
   lot = opened.pointer.lot.now;
   subset = opened.pointer.subset.now;
@@ -198,12 +198,12 @@ end_with opened sns = record {
 }
 
 -- the ends that the zones which are left make with the open one
-abbrev pub ends_with : Option OpenEnd → List ZoneData → List (Option End)
+abbrev pub ends_with : Option OpenEnd → List ZoneData → List (Option EndData)
 ends_with None left = ends left
 ends_with (Some opened) left = Some (end_with opened (sns_with (sns_come opened) left)) ∷ ends left
 
 -- the open end, closed
-abbrev pub ended_with : Option OpenEnd → List End
+abbrev pub ended_with : Option OpenEnd → List EndData
 ended_with None = []
 ended_with (Some opened) = end_with opened (sns_come opened) ∷ []
 

@@ -1,6 +1,6 @@
 use Rattle.std.proofs.Common.{◌≡◌, ◌∙◌, ◌≤◌, ◌+◌, ◌&&◌, ◌||◌, ◌∷◌, [], List, add-one, not, is_none, is_some, length, length-append, take, drop, sym, ap, subst, arith}
 use Rattle.std.specs.List.{AllZip, list_any}
-use Rattle.edi_record.specs.declared.record.End.{End}
+use Rattle.edi_record.specs.LinkEnds.{EndData}
 use Rattle.edi_schema.specs.Roles.{is_plain, same_role}
 use Rattle.edi_schema.specs.declared.role.Role.{Role}
 use Rattle.edi_plan.specs.inner.Findings.{AreSided, EachAt, IsLinkFinding, is_arc_at, is_sided}
@@ -18,7 +18,7 @@ split_at-requires c =
     let r = c.record-record.result in
     let next = cut_at records n r c.record-record.ensures in
     let enough = enough_targets records (drop n records) (drop (n + 1) records) r next c.loop-place.left.now c.loop-place.invariant.left in
-    subst (λ (es : List End). length es ≤ length c.loop-place.left.now) (sym c.ends.ensures) enough
+    subst (λ (es : List EndData). length es ≤ length c.loop-place.left.now) (sym c.ends.ensures) enough
 
 pub repeats_side-requires : goal.repeats_side-requires
 repeats_side-requires c =
@@ -26,7 +26,7 @@ repeats_side-requires c =
     let n = c.loop-place.place in
     let r = c.record-record.result in
     let next = cut_at records n r c.record-record.ensures in
-    let is : c.split_at.result.0.now ≡ take (length r.ends) c.loop-place.left.now = c.split_at.ensures.front ∙ ap (λ (es : List End). take (length es) c.loop-place.left.now) c.ends.ensures in
+    let is : c.split_at.result.0.now ≡ take (length r.ends) c.loop-place.left.now = c.split_at.ensures.front ∙ ap (λ (es : List EndData). take (length es) c.loop-place.left.now) c.ends.ensures in
     let own = subst (AllZip (IsTargetIfAny records) r.ends) (sym is) (own_targets records (drop n records) (drop (n + 1) records) r next c.loop-place.left.now c.loop-place.invariant.left) in
     entries_there records c.deref.result.now r.ends c.split_at.result.0.now (ap length c.deref.ensures.value ∙ c.loop-place.invariant.sided.long) own
 
@@ -36,7 +36,7 @@ note_arcs-requires c =
     let n = c.loop-place.place in
     let r = c.record-record.result in
     let next = cut_at records n r c.record-record.ensures in
-    let is : c.split_at.result.0.now ≡ take (length r.ends) c.loop-place.left.now = c.split_at.ensures.front ∙ ap (λ (es : List End). take (length es) c.loop-place.left.now) c.ends.ensures in
+    let is : c.split_at.result.0.now ≡ take (length r.ends) c.loop-place.left.now = c.split_at.ensures.front ∙ ap (λ (es : List EndData). take (length es) c.loop-place.left.now) c.ends.ensures in
     let own = subst (AllZip (IsTargetIfAny records) r.ends) (sym is) (own_targets records (drop n records) (drop (n + 1) records) r next c.loop-place.left.now c.loop-place.invariant.left) in
     entries_there records c.deref_mut.result.now r.ends c.split_at.result.0.now (ap length c.deref_mut.ensures.value ∙ c.loop-place.invariant.sided.long) own
 
@@ -52,7 +52,7 @@ loop-place-preserved c =
     let new = c.note_arcs.new.sides in
     let ts = c.split_at.result.0.now in
     let next = cut_at records n r here in
-    let is : ts ≡ take (length r.ends) c.loop-place.left.now = c.split_at.ensures.front ∙ ap (λ (es : List End). take (length es) c.loop-place.left.now) c.ends.ensures in
+    let is : ts ≡ take (length r.ends) c.loop-place.left.now = c.split_at.ensures.front ∙ ap (λ (es : List EndData). take (length es) c.loop-place.left.now) c.ends.ensures in
     let own = subst (AllZip (IsTargetIfAny records) r.ends) (sym is) (own_targets records (drop n records) (drop (n + 1) records) r next c.loop-place.left.now i.left) in
     let role = c.link_role-role.ensures in
     let f : LinkFindings = record { names_nothing = c.names_nothing.result; joins_wrong = c.joins_wrong.result; repeats_side = c.repeats_side.result } in
@@ -63,7 +63,7 @@ loop-place-preserved c =
     let sided = next_sided s records n r here ts own table i.sided new long
     (λ a o plain. c.note_arcs.ensures.each a o plain ∙ (λ j. is_some (side_at (c.deref_mut.ensures.value j) a o) || (same_role o (role j) && list_any (is_arc_at a) ts))) in
     record {
-      left = subst (AreTargets records (drop (n + 1) records)) (sym (c.split_at.ensures.back ∙ ap (λ (es : List End). drop (length es) c.loop-place.left.now) c.ends.ensures))
+      left = subst (AreTargets records (drop (n + 1) records)) (sym (c.split_at.ensures.back ∙ ap (λ (es : List EndData). drop (length es) c.loop-place.left.now) c.ends.ensures))
           (later_targets records (drop n records) (drop (n + 1) records) r next c.loop-place.left.now i.left);
       sided = subst (AreSided s records (n + 1)) (sym (written new table c.loop-place.sides.len c.loop-place.sides.ok.0 long)) (subst (λ k. AreSided s records k new) (sym (add-one n)) sided);
       long = ap length c.in_ok-push.ensures.items ∙ (length-append c.loop-place.found.items (f ∷ []) ∙ ap (λ k. k + 1) i.long);

@@ -1,7 +1,7 @@
 use Rattle.std.proofs.Common.{◌≡◌, ◌∙◌, ◌+◌, ◌<◌, ◌++◌, ◌∷◌, [], List, add-one, drop, length, refl, sym, ap, subst, append_assoc, append-nil, arith}
 use Rattle.std.proofs.Math.Seq.{drop-cons}
 use Rattle.std.proofs.Math.ListN.{drop_of_length-le}
-use Rattle.edi_record.specs.declared.record.End.{End}
+use Rattle.edi_record.specs.LinkEnds.{EndData}
 use Rattle.edi_plan.specs.inner.Resolving.{AreGiven}
 use Rattle.edi_plan.specs.declared.record.PlanEnd.{PlanEnd}
 use Rattle.edi_plan.proofs.RuleLemmas.{given_step, none_there}
@@ -33,4 +33,4 @@ returns-clause-ok c =
     let no_target : drop n targets ≡ [] = drop_of_length-le targets (omega (arith, c.requires.long, c.loop-place-test.false)) in
     let no_end : drop n ends ≡ [] = drop_of_length-le ends c.loop-place-test.false in
     subst (AreGiven targets ends) (append-nil c.loop-place.done.items)
-    (c.loop-place.invariant [] (subst (λ ts. AreGiven ts (drop n ends) []) (sym no_target) (subst (λ (es : List End). AreGiven [] es []) (sym no_end) tt)))
+    (c.loop-place.invariant [] (subst (λ ts. AreGiven ts (drop n ends) []) (sym no_target) (subst (λ (es : List EndData). AreGiven [] es []) (sym no_end) tt)))

@@ -3,7 +3,7 @@ use Rattle.std.specs.List.{AllZip, list_any}
 use Rattle.edi_line.specs.inner.Refusal.{first_broken}
 use Rattle.edi_record.specs.Records.{is_link}
 use Rattle.edi_record.specs.declared.record.Attribute.{Attribute}
-use Rattle.edi_record.specs.declared.record.End.{End}
+use Rattle.edi_record.specs.LinkEnds.{EndData}
 use Rattle.edi_schema.specs.declared.role.Role.{Role}
 use Rattle.edi_plan.specs.inner.Resolving.{AreGiven, IsUnresolved, HasNoAttributeClass, Resolves, lacks_class, leaves, reference_tests, role_of_link}
 use Rattle.edi_plan.specs.inner.SideTable.{IsNoted, link_join, link_tests}
@@ -47,7 +47,7 @@ returns-in_err-note_link-clause-least c =
     let class = sym c.requires.class ∙ c.in-Some.is in
     let found = none_lacks s r.attributes c.in_ok-attributes.attributes.items (subst (λ (xs : List Attribute). AllZip (Resolves c.args.schema.now) xs c.in_ok-attributes.attributes.items) c.attributes.ensures c.in_ok-attributes.ensures.ok) in
     let stays = ap (leaves c.args.subset.now) (sym c.ends.ensures) ∙ (sym c.leaves_subset.ensures ∙ c.if-leaves_subset.false) in
-    let there = none_missing c.args.targets.now r.ends c.in_ok-ends.ends.items (subst (λ (xs : List End). AreGiven c.args.targets.now xs c.in_ok-ends.ends.items) c.ends-2.ensures c.in_ok-ends.ensures.ok) in
+    let there = none_missing c.args.targets.now r.ends c.in_ok-ends.ends.items (subst (λ (xs : List EndData). AreGiven c.args.targets.now xs c.in_ok-ends.ends.items) c.ends-2.ensures c.in_ok-ends.ensures.ok) in
     let role = role_of_true s r c.role-role.result (sym (link_same r.kind) ∙ (ap is_link (sym c.kind.ensures) ∙ (sym c.is_link.ensures ∙ c.if-is_link.true))) (role_there s r.scp c.in-Some.class class ∙ ap Some (sym c.role-role.ensures)) in
     let tests = reference_tests s c.args.subset.now c.args.targets.now c.args.sides.now r in
     err_kept _ c.in_err-note_link.field-0.0 (IsUnresolved (λ rule. first_broken tests ≡ Some rule)) c.from_residual-in_err-note_link.ensures.1
@@ -67,7 +67,7 @@ returns-clause-planned c =
       points = c.points.ensures;
       attributes = zip_states s r.attributes c.in_ok-attributes.attributes.items (subst (λ (xs : List Attribute). AllZip (Resolves s) xs c.in_ok-attributes.attributes.items) c.attributes.ensures c.in_ok-attributes.ensures.ok);
       extras = c.in_ok-plan_extras.ensures ∙ c.extras.ensures;
-      ends = subst (λ (xs : List End). AreGiven c.args.targets.now xs c.in_ok-ends.ends.items) c.ends-2.ensures c.in_ok-ends.ensures.ok;
+      ends = subst (λ (xs : List EndData). AreGiven c.args.targets.now xs c.in_ok-ends.ends.items) c.ends-2.ensures c.in_ok-ends.ensures.ok;
     }
 
 pub returns-clause-noted : goal.returns-clause-noted
@@ -94,7 +94,7 @@ returns-clause-sound c =
     let class = sym c.requires.class ∙ c.in-Some.is in
     let found = none_lacks s r.attributes c.in_ok-attributes.attributes.items (subst (λ (xs : List Attribute). AllZip (Resolves c.args.schema.now) xs c.in_ok-attributes.attributes.items) c.attributes.ensures c.in_ok-attributes.ensures.ok) in
     let stays = ap (leaves c.args.subset.now) (sym c.ends.ensures) ∙ (sym c.leaves_subset.ensures ∙ c.if-leaves_subset.false) in
-    let there = none_missing c.args.targets.now r.ends c.in_ok-ends.ends.items (subst (λ (xs : List End). AreGiven c.args.targets.now xs c.in_ok-ends.ends.items) c.ends-2.ensures c.in_ok-ends.ensures.ok) in
+    let there = none_missing c.args.targets.now r.ends c.in_ok-ends.ends.items (subst (λ (xs : List EndData). AreGiven c.args.targets.now xs c.in_ok-ends.ends.items) c.ends-2.ensures c.in_ok-ends.ensures.ok) in
     let named = role_there s r.scp c.in-Some.class class ∙ ap Some (sym c.role-role.ensures) in
     let past = pass c.args.schema.now c.args.subset.now c.args.targets.now c.args.sides.now c.args.record.now (ap is_none class) found stays there in
     elim c.if-is_link.branch [

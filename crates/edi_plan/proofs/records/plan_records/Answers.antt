@@ -2,7 +2,7 @@ use Rattle.std.proofs.Common.{rules, ◌≡◌, ◌≢◌, ◌∙◌, refl, ◌+
 use Rattle.std.proofs.lemmas.List.{length-replicate, take_all}
 use Rattle.std.specs.List.{AllZip}
 use Rattle.std.proofs.lemmas.Option.{slice_get_within}
-use Rattle.edi_record.specs.declared.record.End.{End}
+use Rattle.edi_record.specs.LinkEnds.{EndData}
 use Rattle.edi_plan.proofs.TargetLemmas.{zip_taken}
 use Rattle.edi_line.specs.inner.Refusal.{first_broken}
 use Rattle.edi_plan.specs.inner.Done.{IsDone, IsJoinIfAny}
@@ -41,7 +41,7 @@ split_at-requires c =
     let here = left_there c.args.records c.loop-record.rest c.loop-record.place c.in-Some.record c.loop-record.invariant.rest c.in-Some.ensures in
     let next = cut_at c.args.records c.loop-record.place c.in-Some.record here in
     let enough = enough_targets c.args.records (drop c.loop-record.place c.args.records) (drop (c.loop-record.place + 1) c.args.records) c.in-Some.record next c.loop-record.targets.now c.loop-record.invariant.left in
-    subst (λ (es : List End). length es ≤ length c.loop-record.targets.now) (sym c.ends.ensures) enough
+    subst (λ (es : List EndData). length es ≤ length c.loop-record.targets.now) (sym c.ends.ensures) enough
 
 pub plan_record-requires-clause-entries : goal.plan_record-requires-clause-entries
 plan_record-requires-clause-entries c =
@@ -49,7 +49,7 @@ plan_record-requires-clause-entries c =
     let here = left_there c.args.records c.loop-record.rest c.loop-record.place c.in-Some.record i.rest c.in-Some.ensures in
     let next = cut_at c.args.records c.loop-record.place c.in-Some.record here in
     let own = own_targets c.args.records (drop c.loop-record.place c.args.records) (drop (c.loop-record.place + 1) c.args.records) c.in-Some.record next c.loop-record.targets.now i.left in
-    let is : c.split_at.result.0.now ≡ take (length c.in-Some.record.ends) c.loop-record.targets.now = c.split_at.ensures.front ∙ ap (λ (es : List End). take (length es) c.loop-record.targets.now) c.ends.ensures in
+    let is : c.split_at.result.0.now ≡ take (length c.in-Some.record.ends) c.loop-record.targets.now = c.split_at.ensures.front ∙ ap (λ (es : List EndData). take (length es) c.loop-record.targets.now) c.ends.ensures in
     entries_there c.args.records c.deref_mut.result.now c.in-Some.record.ends c.split_at.result.0.now (ap length c.deref_mut.ensures.value ∙ i.done.long) (subst (AllZip (IsTargetIfAny c.args.records) c.in-Some.record.ends) (sym is) own)
 
 pub returns-in-Err-Broken-clause-least : goal.returns-in-Err-Broken-clause-least
@@ -61,7 +61,7 @@ returns-in-Err-Broken-clause-least c =
     let i = c.loop-record.invariant in
     let here = left_there list c.loop-record.rest place r i.rest c.in-Some.ensures in
     let next = cut_at list place r here in
-    let is : c.split_at.result.0.now ≡ take (length r.ends) c.loop-record.targets.now = c.split_at.ensures.front ∙ ap (λ (es : List End). take (length es) c.loop-record.targets.now) c.ends.ensures in
+    let is : c.split_at.result.0.now ≡ take (length r.ends) c.loop-record.targets.now = c.split_at.ensures.front ∙ ap (λ (es : List EndData). take (length es) c.loop-record.targets.now) c.ends.ensures in
     let own = subst (AllZip (IsTargetIfAny list) r.ends) (sym is) (own_targets list (drop c.loop-record.place c.args.records) (drop (c.loop-record.place + 1) c.args.records) r next c.loop-record.targets.now i.left) in
     let before = subst (IsDone s list place) (sym c.deref_mut.ensures.value) i.done in
     let elsewhere = λ (e : c.args.references.now.repeat ≡ Some place). true≢false (sym (c.is_place.ensures.1 e) ∙ c.if-is_place.false) in
@@ -80,7 +80,7 @@ returns-in-Err-Broken-clause-earlier c =
     let rule = c.in-Err-Broken.rule in
     let i = c.loop-record.invariant in
     let here = left_there list c.loop-record.rest place r i.rest c.in-Some.ensures in
-    let is : c.split_at.result.0.now ≡ take (length r.ends) c.loop-record.targets.now = c.split_at.ensures.front ∙ ap (λ (es : List End). take (length es) c.loop-record.targets.now) c.ends.ensures in
+    let is : c.split_at.result.0.now ≡ take (length r.ends) c.loop-record.targets.now = c.split_at.ensures.front ∙ ap (λ (es : List EndData). take (length es) c.loop-record.targets.now) c.ends.ensures in
     let own = subst (AllZip (IsTargetIfAny list) r.ends) (sym is) (own_targets list (drop place list) (drop (place + 1) list) r (cut_at list place r here) c.loop-record.targets.now i.left) in
     let told = c.broken-in-Err-Broken.ensures in
     let fault : c.broken-in-Err-Broken.result.fault ≡ Broken rule (place + 1) = told.fault ∙ rw c.in-Err-Broken.field-0-is refl in
@@ -102,7 +102,7 @@ loop-record-preserved c =
     let i = c.loop-record.invariant in
     let here = left_there list c.loop-record.rest place r i.rest c.in-Some.ensures in
     let next = cut_at list place r here in
-    let is : c.split_at.result.0.now ≡ take (length r.ends) c.loop-record.targets.now = c.split_at.ensures.front ∙ ap (λ (es : List End). take (length es) c.loop-record.targets.now) c.ends.ensures in
+    let is : c.split_at.result.0.now ≡ take (length r.ends) c.loop-record.targets.now = c.split_at.ensures.front ∙ ap (λ (es : List EndData). take (length es) c.loop-record.targets.now) c.ends.ensures in
     let own = subst (AllZip (IsTargetIfAny list) r.ends) (sym is) (own_targets list (drop c.loop-record.place c.args.records) (drop (c.loop-record.place + 1) c.args.records) r next c.loop-record.targets.now i.left) in
     let before = subst (IsDone s list place) (sym c.deref_mut.ensures.value) i.done in
     let elsewhere = λ (e : c.args.references.now.repeat ≡ Some place). true≢false (sym (c.is_place.ensures.1 e) ∙ c.if-is_place.false) in
@@ -119,7 +119,7 @@ loop-record-preserved c =
           zip_taken (StatesPlanRecord s list) [] list place r (plan_records_of c.loop-record.list) c.in-Ok.planned (plan_records_of c.put_behind.new.list) (slice_get_within list place r here) (got_there list place r here)
           c.in_ok-spare-in-Ok.ensures i.zipped states;
       ahead = ahead_more place c.args.references.now.repeat i.ahead elsewhere;
-      left = subst (AreTargets list (drop (c.loop-record.place + 1) c.args.records)) (sym (c.split_at.ensures.back ∙ ap (λ (es : List End). drop (length es) c.loop-record.targets.now) c.ends.ensures))
+      left = subst (AreTargets list (drop (c.loop-record.place + 1) c.args.records)) (sym (c.split_at.ensures.back ∙ ap (λ (es : List EndData). drop (length es) c.loop-record.targets.now) c.ends.ensures))
           (later_targets list (drop c.loop-record.place c.args.records) (drop (c.loop-record.place + 1) c.args.records) r next c.loop-record.targets.now i.left);
       done = subst (IsDone s list (place + 1)) (sym (written c.plan_record.new.sides c.loop-record.sides.items c.loop-record.sides.len c.loop-record.sides.ok.0 (c.in-Ok.ensures.noted.long ∙ ap length c.deref_mut.ensures.value))) done;
     }

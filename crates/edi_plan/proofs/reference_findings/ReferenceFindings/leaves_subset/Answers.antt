@@ -1,5 +1,5 @@
 use Rattle.std.proofs.Common.{◌∙◌, List, Option, ap}
-use Rattle.edi_record.specs.declared.record.End.{End}
+use Rattle.edi_record.specs.LinkEnds.{EndData}
 use Rattle.edi_plan.specs.inner.Resolving.{leaves}
 use Rattle.edi_plan.specs.declared.references.Subset.{Subset}
 use Rattle.edi_plan.specs.ReferenceRules.{LeavesSubset}
@@ -14,4 +14,4 @@ returns c =
     let place = c.args.place in
     let r = c.record.result in
     at_place LeavesSubset s list c.args.self.now place _ c.self.view_is
-    (tested _ _ (c.leaves_subset.ensures ∙ (ap (λ (es : List End). leaves c.self.inside.subset es) c.ends.ensures ∙ ap (λ (x : Option Subset). leaves x r.ends) c.self.invariant.0)) (to_304 s list place r c.record.ensures) (from_304 s list place r c.record.ensures))
+    (tested _ _ (c.leaves_subset.ensures ∙ (ap (λ (es : List EndData). leaves c.self.inside.subset es) c.ends.ensures ∙ ap (λ (x : Option Subset). leaves x r.ends) c.self.invariant.0)) (to_304 s list place r c.record.ensures) (from_304 s list place r c.record.ensures))
