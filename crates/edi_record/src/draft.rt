@@ -152,7 +152,7 @@ impl<'a> Draft<'a> {
         Ok(RecordHead {
             kind: self.kind,
             rid: Text::from_slice(alloc, rid)?,
-            scp: class.name(&mut parts.texts)?,
+            scp: parts.texts.class(&class)?,
         })
     }
 }

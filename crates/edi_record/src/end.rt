@@ -2,7 +2,7 @@
 
 ghost use Rattle.std.specs.Prelude.{◌≡◌, option_copied};
 
-use crate::pointer_starts::PointerStart;
+use crate::shared_parts::PointerStart;
 use edi_line::Text;
 use std::marker::Model;
 use std::sync::Arc;

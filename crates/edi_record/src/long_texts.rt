@@ -1,21 +1,16 @@
-//! Texts that come again: long ones, and the starts of pointers.
+//! Texts that come again: long ones, and the starts of pointers and the classes that many share.
 
-ghost use Rattle.std.specs.Prelude.{◌≡◌, ◌<◌, ◌≤◌, length, IfOk, OnOk};
+ghost use Rattle.std.specs.Prelude.{◌≡◌, ◌<◌, length, IfOk, OnOk};
 
+use crate::name::Name;
 use crate::pointer::Pointer;
-use crate::pointer_starts::{PointerStart, PointerStarts};
+use crate::shared_parts::{PointerStart, SPREAD, SharedParts, last_bytes};
 use edi_line::Text;
 use std::alloc::{AllocError, Global};
 use std::sync::Arc;
 
 // How many long texts are kept.
 const SLOTS: usize = 1024;
-
-// How many bytes at the end of a text choose its slot.
-const LAST: usize = 8;
-
-// An odd number of 64 bits, by which the bytes that choose a slot are spread.
-const SPREAD: u64 = 0x9E37_79B9_7F4A_7C15;
 
 // How far the spread bytes are shifted, so that the number of a slot is left.
 const SHIFT: u32 = 54;
@@ -28,20 +23,15 @@ pub(crate) struct LongTexts {
     pub(crate) alloc: Global,
     /// None before the first long text has come.
     slots: Vec<Text>,
-    starts: PointerStarts,
+    starts: SharedParts<PointerStart>,
+    classes: SharedParts<Name>,
 }
 
 /// The slot of a text.
 fn slot_of(text: &[u8]) -> usize
-    requires { 8 ≤ length text.now }
     ensures { result < 1024 }
 {
-    let (_, last) = text.split_at(text.len() - LAST);
-    let [a, b, c, d, e, f, g, h] = last else {
-        return 0;
-    };
-    let number = u64::from_le_bytes([*a, *b, *c, *d, *e, *f, *g, *h]);
-    (number.wrapping_mul(SPREAD) >> SHIFT) as usize
+    (last_bytes(text).wrapping_mul(SPREAD) >> SHIFT) as usize
 }
 
 impl LongTexts {
@@ -50,7 +40,8 @@ impl LongTexts {
         LongTexts {
             alloc,
             slots: Vec::new(alloc),
-            starts: PointerStarts::new(alloc),
+            starts: SharedParts::new(alloc),
+            classes: SharedParts::new(alloc),
         }
     }
 
@@ -78,7 +69,15 @@ impl LongTexts {
         ensures { IfOk result (λ start. start.value
             ≡ record { lot = pointer.now.lot.now; subset = pointer.now.subset.now; rty = pointer.now.rty.now }) }
     {
-        self.starts.start(self.alloc, pointer)
+        self.starts.part(self.alloc, pointer)
+    }
+
+    /// The name of the class that a pointer names.
+    pub(crate) fn class(&mut self, pointer: &Pointer<'_>) -> Result<Arc<Name>, AllocError>
+        ensures { IfOk result (λ class. class.value
+            ≡ record { rty = pointer.now.rty.now; rid = pointer.now.rid.now }) }
+    {
+        self.classes.part(self.alloc, pointer)
     }
 
     /// A text of these bytes, which shares the memory of the one in its slot where that has the same.

@@ -9,12 +9,13 @@ use crate::name::Name;
 use crate::record::{Attribute, Extra, Kind, Point};
 use edi_line::Text;
 use std::alloc::Global;
+use std::sync::Arc;
 
-/// A record but for its parts.
+/// A record but for its parts. It shares the name of its class with the other records that have the same.
 pub(crate) struct RecordHead {
     pub(crate) kind: Kind,
     pub(crate) rid: Text,
-    pub(crate) scp: Name,
+    pub(crate) scp: Arc<Name>,
 }
 
 impl Drop for RecordHead {

@@ -19,7 +19,7 @@ abbrev pub record_with_parts : AnyRecord RecordHead Attribute EndData → Record
 record_with_parts e = record {
   kind = e.head.kind;
   rid = e.head.rid;
-  scp = e.head.scp;
+  scp = e.head.scp.value;
   points = e.parts.points;
   ends = e.parts.ends;
   attributes = e.parts.attributes;
