@@ -8,7 +8,7 @@ use std::marker::Model;
 
 /// The place of what an arc has by each kind of link, if it has something by it. It takes 20 bytes, where four optional
 /// places take 32, and a plan has one for each record. Contracts see the optional places.
-#[derive(Clone, Copy)]
+#[derive(Drop)]
 pub(crate) struct ArcSides {
     places: ByRole<u32>,
     there: ByRole<bool>,
@@ -59,30 +59,28 @@ impl ArcSides {
         if there { Some(place) } else { None }
     }
 
-    /// The same, with this place by a kind.
-    pub(crate) fn with(self, role: Role, place: u32) -> ArcSides
-        ensures { IsWith self role place result }
+    /// Puts this place by a kind.
+    pub(crate) fn put(&mut self, role: Role, place: u32)
+        ensures { IsWith self.old role place self.new }
     {
-        let mut sides = self;
         match role {
             Role::Initial => {
-                sides.places.initial = place;
-                sides.there.initial = true;
+                self.places.initial = place;
+                self.there.initial = true;
             }
             Role::Final => {
-                sides.places.final_node = place;
-                sides.there.final_node = true;
+                self.places.final_node = place;
+                self.there.final_node = true;
             }
             Role::Left => {
-                sides.places.left = place;
-                sides.there.left = true;
+                self.places.left = place;
+                self.there.left = true;
             }
             Role::Right => {
-                sides.places.right = place;
-                sides.there.right = true;
+                self.places.right = place;
+                self.there.right = true;
             }
             Role::Plain => {}
         }
-        sides
     }
 }

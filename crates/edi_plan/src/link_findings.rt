@@ -100,8 +100,7 @@ fn note_arc(sides: &mut [ArcSides], role: Role, target: Option<Target>, place: u
         ≡ (is_some (side_at sides.old a o) || (same_role o role && is_arc_at a target)) }
 {
     if let Some(arc) = arc_of(target) {
-        let arc = &mut sides[arc as usize];
-        *arc = arc.with(role, place);
+        sides[arc as usize].put(role, place);
     }
 }
 

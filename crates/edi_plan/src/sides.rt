@@ -23,13 +23,14 @@ pub(crate) struct Join {
 }
 
 /// The table of so many records without links.
-pub(crate) fn without_links(
-    alloc: Global,
-    len: usize,
-) -> Result<Vec<ArcSides>, AllocError>
+pub(crate) fn without_links(alloc: Global, len: usize) -> Result<Vec<ArcSides>, AllocError>
     ensures { IfOk result (λ table. table.items ≡ replicate len no_values) }
 {
-    Ok(vec![in alloc; ArcSides::none(); len]?)
+    let mut table = Vec::with_capacity(alloc, len)?;
+    for _ in 0..len {
+        table.push(ArcSides::none())?;
+    }
+    Ok(table)
 }
 
 /// What a link of one of the four kinds joins with an arc.
@@ -81,7 +82,7 @@ fn note(sides: &mut [ArcSides], role: Role, join: Join) -> bool
     if arc.of(role).is_some() {
         return false;
     }
-    *arc = arc.with(role, join.other);
+    arc.put(role, join.other);
     true
 }
 

@@ -170,6 +170,15 @@ fn add_targets(
     Ok(())
 }
 
+/// How many ends there are, for which room is made.
+fn count_ends(records: &SheetRecords) -> usize {
+    let mut count: usize = 0;
+    for place in 0..records.len() {
+        count = count.saturating_add(records.ends(place).len());
+    }
+    count
+}
+
 /// The targets of all ends of all records, in their order.
 pub(crate) fn targets(
     alloc: Global,
@@ -179,7 +188,7 @@ pub(crate) fn targets(
     requires { FindsAll records.now names.now }
     ensures { IfOk result (λ targets. AreTargets records.now records.now targets.items) }
 {
-    let mut targets = Vec::new(alloc);
+    let mut targets = Vec::with_capacity(alloc, count_ends(records))?;
     let mut last = LastNamed::new();
     for place in 0..records.len() {
         add_targets(&mut targets, &mut last, records, names, records.ends(place))?;

@@ -25,11 +25,11 @@ drop_past [] (suc n) h = refl
 drop_past (x ∷ xs) zero h = absurd (omega (arith, h))
 drop_past (x ∷ xs) (suc n) h = drop_past xs n (omega (arith, h))
 
-pub empties : {V : Type 0} (f : V → List ℕ) (vs : List V) → AllByRecursion (λ v. f v ≡ []) vs → (k : ℕ) → get_or (map f vs) k [] ≡ []
-empties f [] all zero = refl
-empties f [] all (suc k) = refl
-empties f (v ∷ vs) all zero = all.0
-empties f (v ∷ vs) all (suc k) = empties f vs all.1 k
+pub empties : (lists : List (List ℕ)) → AllByRecursion (λ list. list ≡ []) lists → (k : ℕ) → get_or lists k [] ≡ []
+empties [] all zero = refl
+empties [] all (suc k) = refl
+empties (list ∷ lists) all zero = all.0
+empties (list ∷ lists) all (suc k) = empties lists all.1 k
 
 module _ (p : PlanData) (place : ℕ) (there : IsPlace p place) (lists : List (List ℕ))
     (so_far : (k : ℕ) → IsPlace p k → is_object (record_at p k).kind ≡ true → get_or lists k [] ++ pieces_from p k place (drop place p.list) ≡ piece_places p k) where

@@ -63,7 +63,8 @@ fn positions_of_many(
     let mut pairs = placed_ends(alloc, plan, numbers, ends)?;
     pairs.sort_unstable();
     let positions = positions_in(alloc, &pairs)?;
-    SparseList::from_vec(alloc, positions)
+    let order = SparseList::from_vec(alloc, positions)?;
+    Ok(order)
 }
 
 /// The positions of these ends in their order; none where there is one end at most.

@@ -7,9 +7,14 @@ use std::marker::Model;
 
 /// A list that is mostly empty, as that of the pieces of a record, most of which are no objects. It takes 8 bytes, where
 /// a `Vec` takes 24, and memory of its own only where it has elements. Contracts see the list alone.
-#[derive(Drop)]
 pub(crate) struct SparseList<T> {
     elements: Option<Box<Vec<T>>>,
+}
+
+impl<T: Drop> Drop for SparseList<T> {
+    fn drop(self) {
+        let SparseList { elements: _ } = self;
+    }
 }
 
 impl<T> Model for SparseList<T> {
@@ -52,13 +57,13 @@ impl<T: Drop> SparseList<T> {
         ensures { OnOk result (self.new ≡ self.old ++ element ∷ []) }
     {
         match &mut self.elements {
-            Some(elements) => elements.push(element),
+            Some(elements) => elements.push(element)?,
             None => {
                 let mut elements = Vec::with_capacity(alloc, 1)?;
                 elements.push(element)?;
                 self.elements = Some(Box::new(alloc, elements)?);
-                Ok(())
             }
         }
+        Ok(())
     }
 }

@@ -10,9 +10,12 @@ use std::marker::Model;
 // How many places there are for what came behind a class, and for what came of identifiers that are alike.
 const PLACES: usize = 64;
 
+// How many bytes at the end of an identifier are looked at for its place.
+const LAST: usize = 8;
+
 /// Finds the classes of names under a schema. The classes of a sheet's records mostly come in the same turn, so what
-/// came last behind the class before is looked at first; then what came last of the identifiers whose bytes make the same
-/// number. In random order nearly each name was looked up by a hash before: a twelfth of the instructions of a check.
+/// came last behind the class before is looked at first; then what came last of the identifiers whose last bytes make the
+/// same number. In random order nearly each name was looked up by a hash before: a twelfth of the instructions of a check.
 /// This decides where a class is looked for first, and never what is found. Contracts see the schema alone.
 #[derive(Drop)]
 pub struct ClassFinder<'a> {
@@ -80,12 +83,13 @@ impl<'a> ClassFinder<'a> {
     }
 }
 
-/// A place for an identifier by the number that its bytes make.
+/// A place for an identifier by the number that its last bytes make.
 fn place_alike(rid: &[u8]) -> usize
     ensures { result < 64 }
 {
+    let (_, last) = rid.split_at(rid.len().saturating_sub(LAST));
     let mut number: usize = 0;
-    for byte in rid {
+    for byte in last {
         number = number.wrapping_mul(31).wrapping_add(usize::from(*byte));
     }
     number % PLACES

@@ -16,6 +16,6 @@ returns c =
     let kind = ap target_kind (sym (c.as_slice.ensures ∙ c.rty.ensures)) ∙ (sym c.kind_coded.ensures ∙ c.in_ok-kind.was) in
     let code = coded target.rty c.in_ok-kind.kind kind in
     let spelled : target ≡ record { rty = kind_code c.in_ok-kind.kind; rid = c.rid.result.now } =
-        ap₂ (λ (rty rid : List ℕ). record { rty = rty; rid = rid }) code.0 (sym c.rid.ensures) in
+    ap₂ (λ (rty rid : List ℕ). record { rty = rty; rid = rid }) code.0 (sym c.rid.ensures) in
     leads_to c.args.records.now c.args.end.now c.in_ok-kind.kind c.in_ok-place.place kind
     (ap (place_named c.args.records.now) spelled ∙ (sym c.place_of.ensures ∙ c.in_ok-place.was))

@@ -6,5 +6,5 @@ use Rattle.edi_rank.proofs.end_orders.sorted_positions.Goals as goal
 pub returns-then-ends-lt2 : goal.returns-then-ends-lt2
 returns-then-ends-lt2 c =
     let number : ℕ → ℕ = λ k. get_or c.args.numbers.now k 0 in
-    subst (λ positions. PutsInOrder c.args.plan.now number positions c.args.ends.now) (sym (c.from_vec.ensures ∙ c.new.ensures.items))
+    subst (λ positions. PutsInOrder c.args.plan.now number positions c.args.ends.now) (sym c.new.ensures)
     (few_in_order c.args.plan.now number c.args.ends.now (omega (arith, c.if-ends-lt2.true)))

@@ -7,5 +7,5 @@ abbrev pub invariant-loop-place : goal.invariant-loop-place
 invariant-loop-place l = record {
   long : length l.links.items ≡ length l.plan.list;
   so_far : (k : ℕ) → IsPlace l.plan k → is_object (record_at l.plan k).kind ≡ true
-      → get_or (map (λ v. v.items) l.links.items) k [] ++ pieces_from l.plan k l.place (drop l.place l.plan.list) ≡ piece_places l.plan k;
+      → get_or l.links.items k [] ++ pieces_from l.plan k l.place (drop l.place l.plan.list) ≡ piece_places l.plan k;
 }

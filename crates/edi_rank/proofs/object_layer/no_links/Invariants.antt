@@ -3,6 +3,6 @@ use Rattle.edi_rank.proofs.object_layer.no_links.Given as goal
 
 abbrev pub invariant-loop : goal.invariant-loop
 invariant-loop l = record {
-  empty : All (λ v. v.items ≡ []) l.links.items;
+  empty : All (λ list. list ≡ []) l.links.items;
   long : length l.links.items ≡ l.counter;
 }

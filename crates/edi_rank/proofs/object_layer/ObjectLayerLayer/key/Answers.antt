@@ -1,6 +1,6 @@
 use Rattle.std.proofs.Common.{◌≡◌, ◌<◌, ◌∙◌, ℕ, [], List, sym, subst, ap, ap₂, arith, length, map, filter_map, get_or}
 use Rattle.std.specs.List.{AllByRecursion}
-use Rattle.std.proofs.lemmas.List.{get_or-map}
+use Rattle.std.proofs.lemmas.List.{get_or_read}
 use Rattle.edi_record.specs.declared.record.Kind.TheVariants.{Fea}
 use Rattle.edi_plan.specs.Plans.{IsPlace, record_at, is_object}
 use Rattle.edi_plan.specs.Orders.{attribute_cmp}
@@ -36,20 +36,18 @@ pub sorted_pieces-requires-clause-links : goal.sorted_pieces-requires-clause-lin
 sorted_pieces-requires-clause-links c =
     let there = there_in c.args.self.now (record { plan = c.self.inside.plan.now; numbers = c.self.inside.numbers.items }) c.args.member c.place-place.result c.self.view_is c.place-place.ensures c.requires in
     let within : c.place-place.result < length c.deref-links.result.now = omega (arith, ap length c.deref-links.ensures.value, c.self.invariant.2, there.0) in
-    let is : c.deref-own.result.now ≡ piece_places c.self.inside.plan.now c.place-place.result = c.deref-own.ensures.value ∙ (ap (λ v. v.items) c.index-links-place.is
-    ∙ (sym (get_or-map (λ v. v.items) c.deref-links.result.now c.place-place.result c.index-links-place.result [] within)
-    ∙ (ap (λ ls. get_or (map (λ v. v.items) ls) c.place-place.result []) c.deref-links.ensures.value ∙ c.self.invariant.4 c.place-place.result there.0 there.1))) in
+    let is : c.as_slice-own.result.now ≡ piece_places c.self.inside.plan.now c.place-place.result = c.as_slice-own.ensures ∙ (get_or_read c.deref-links.result.now c.place-place.result c.index-links-place.result within c.index-links-place.is []
+    ∙ (ap (λ ls. get_or ls c.place-place.result []) c.deref-links.ensures.value ∙ c.self.invariant.4 c.place-place.result there.0 there.1)) in
     subst (AllByRecursion (IsPlace c.self.inside.plan.now)) (sym is) (pieces_there c.self.inside.plan.now c.place-place.result)
 
 pub sorted_pieces-requires-clause-orders : goal.sorted_pieces-requires-clause-orders
 sorted_pieces-requires-clause-orders c =
     let there = there_in c.args.self.now (record { plan = c.self.inside.plan.now; numbers = c.self.inside.numbers.items }) c.args.member c.place-place.result c.self.view_is c.place-place.ensures c.requires in
     let within : c.place-place.result < length c.deref-links.result.now = omega (arith, ap length c.deref-links.ensures.value, c.self.invariant.2, there.0) in
-    let is : c.deref-own.result.now ≡ piece_places c.self.inside.plan.now c.place-place.result = c.deref-own.ensures.value ∙ (ap (λ v. v.items) c.index-links-place.is
-    ∙ (sym (get_or-map (λ v. v.items) c.deref-links.result.now c.place-place.result c.index-links-place.result [] within)
-    ∙ (ap (λ ls. get_or (map (λ v. v.items) ls) c.place-place.result []) c.deref-links.ensures.value ∙ c.self.invariant.4 c.place-place.result there.0 there.1))) in
-    subst (λ numbers. AllByRecursion (OthersInOrder c.self.inside.plan.now (λ k. get_or numbers k 0) c.deref-2.result.now) c.deref-own.result.now) (sym c.deref.ensures.value)
-    (subst (λ orders. AllByRecursion (OthersInOrder c.self.inside.plan.now (λ k. get_or c.self.inside.numbers.items k 0) orders) c.deref-own.result.now) (sym c.deref-2.ensures.value)
+    let is : c.as_slice-own.result.now ≡ piece_places c.self.inside.plan.now c.place-place.result = c.as_slice-own.ensures ∙ (get_or_read c.deref-links.result.now c.place-place.result c.index-links-place.result within c.index-links-place.is []
+    ∙ (ap (λ ls. get_or ls c.place-place.result []) c.deref-links.ensures.value ∙ c.self.invariant.4 c.place-place.result there.0 there.1)) in
+    subst (λ numbers. AllByRecursion (OthersInOrder c.self.inside.plan.now (λ k. get_or numbers k 0) c.deref-2.result.now) c.as_slice-own.result.now) (sym c.deref.ensures.value)
+    (subst (λ orders. AllByRecursion (OthersInOrder c.self.inside.plan.now (λ k. get_or c.self.inside.numbers.items k 0) orders) c.as_slice-own.result.now) (sym c.deref-2.ensures.value)
     (subst (AllByRecursion (OthersInOrder c.self.inside.plan.now (λ k. get_or c.self.inside.numbers.items k 0) c.self.inside.orders.items)) (sym is)
     (pieces_with c.self.inside.plan.now c.place-place.result (OthersInOrder c.self.inside.plan.now (λ k. get_or c.self.inside.numbers.items k 0) c.self.inside.orders.items) c.self.invariant.6)))
 
@@ -57,9 +55,8 @@ pub returns : goal.returns
 returns c =
     let there = there_in c.args.self.now (record { plan = c.self.inside.plan.now; numbers = c.self.inside.numbers.items }) c.args.member c.place-place.result c.self.view_is c.place-place.ensures c.requires in
     let within : c.place-place.result < length c.deref-links.result.now = omega (arith, ap length c.deref-links.ensures.value, c.self.invariant.2, there.0) in
-    let is : c.deref-own.result.now ≡ piece_places c.self.inside.plan.now c.place-place.result = c.deref-own.ensures.value ∙ (ap (λ v. v.items) c.index-links-place.is
-    ∙ (sym (get_or-map (λ v. v.items) c.deref-links.result.now c.place-place.result c.index-links-place.result [] within)
-    ∙ (ap (λ ls. get_or (map (λ v. v.items) ls) c.place-place.result []) c.deref-links.ensures.value ∙ c.self.invariant.4 c.place-place.result there.0 there.1))) in
+    let is : c.as_slice-own.result.now ≡ piece_places c.self.inside.plan.now c.place-place.result = c.as_slice-own.ensures ∙ (get_or_read c.deref-links.result.now c.place-place.result c.index-links-place.result within c.index-links-place.is []
+    ∙ (ap (λ ls. get_or ls c.place-place.result []) c.deref-links.ensures.value ∙ c.self.invariant.4 c.place-place.result there.0 there.1)) in
     let p = c.self.inside.plan.now in
     let o = c.place-place.result in
     let numbers = c.self.inside.numbers.items in
@@ -68,7 +65,7 @@ returns c =
     let attributes : c.from_vec.result ≡ sort_by attribute_cmp (record_at p o).attributes = c.from_vec.ensures ∙ (c.in_ok-attributes.ensures ∙ ap (sort_by attribute_cmp) c.attributes.ensures) in
     let extras : c.of.result ≡ (record_at p o).extras = c.of.ensures ∙ c.extras.ensures in
     let pieces : c.from_vec-2.result ≡ sort_by link_key_cmp (filter_map (piece_by p (λ k. get_or numbers k 0) o) p.list) = c.from_vec-2.ensures ∙ (c.in_ok-pieces.ensures
-    ∙ (ap (λ ns. sort_by link_key_cmp (map (λ k. link_key p (λ j. get_or ns j 0) (record_at p k)) c.deref-own.result.now)) c.deref.ensures.value
+    ∙ (ap (λ ns. sort_by link_key_cmp (map (λ k. link_key p (λ j. get_or ns j 0) (record_at p k)) c.as_slice-own.result.now)) c.deref.ensures.value
     ∙ ap (sort_by link_key_cmp) (ap (map (λ k. link_key p (λ j. get_or numbers j 0) (record_at p k))) is ∙ pieces_keyed_by p o (λ k. get_or numbers k 0) (c.self.invariant.3 o there.0 there.1)))) in
     let own : ObjectKey = record { class = c.scp.result; attributes = c.from_vec.result; extras = c.of.result; pieces = c.from_vec-2.result } in
     let made : own ≡ object_key_at q o = λ i. record { class = class i; attributes = attributes i; extras = extras i; pieces = pieces i } in
