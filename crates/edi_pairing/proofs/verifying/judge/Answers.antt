@@ -2,7 +2,7 @@ use Rattle.std.proofs.Common.{subst, MatchOption, IfSome}
 use Rattle.edi_compare.specs.Pairings.{PairingCarries}
 use Rattle.edi_compare.specs.Uncarried.{IsUncarriedBy}
 use Rattle.edi_pairing.proofs.VerifyLemmas.{unpaired_by}
-use Rattle.edi_pairing.proofs.verifying.judged.Goals as goal
+use Rattle.edi_pairing.proofs.verifying.judge.Goals as goal
 
 pub returns-in_ok-why-in-Some : goal.returns-in_ok-why-in-Some
 returns-in_ok-why-in-Some c =
