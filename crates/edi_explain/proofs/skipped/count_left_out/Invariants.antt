@@ -3,7 +3,7 @@ use Rattle.edi_line.specs.inner.Zones.{readings_of}
 use Rattle.edi_explain.specs.Skipped.{remarks_in}
 use Rattle.edi_explain.specs.inner.Skipped.{is_quality_line}
 use Rattle.edi_explain.proofs.Remarks.{AreFine}
-use Rattle.edi_explain.proofs.skipped.left_out.Given as goal
+use Rattle.edi_explain.proofs.skipped.count_left_out.Given as goal
 
 abbrev pub invariant-loop-rest : goal.invariant-loop-rest
 invariant-loop-rest l = record {

@@ -7,16 +7,16 @@ use Rattle.edi_compare.proofs.Phases.{all_held, object_refusal}
 use Rattle.edi_plan.specs.EarlierLinks.{IsLeastIfAny}
 use Rattle.edi_explain.specs.Partners.{IsEqualObject}
 use Rattle.edi_explain.proofs.Earlier.{no_end_node, object_earlier, object_rule}
-use Rattle.edi_explain.proofs.examined.objects_examined.Goals as goal
+use Rattle.edi_explain.proofs.examined.examine_objects.Goals as goal
 
-pub returns-in-Ok-clause-accepted : goal.returns-in-Ok-clause-accepted
-returns-in-Ok-clause-accepted c = all_held c.args.schema.now c.args.bytes.now c.requires.held c.args.sound c.requires.plan c.in-Ok.ensures.distinct
+pub returns-in-Ok : goal.returns-in-Ok
+returns-in-Ok c = (all_held c.args.schema.now c.args.bytes.now c.requires.held c.args.sound c.requires.plan c.in-Ok.ensures.distinct, c.requires.plan)
 
-pub returns-in-Err-Memory-clause-found : goal.returns-in-Err-Memory-clause-found
-returns-in-Err-Memory-clause-found c = c.found_alone.ensures c.args.schema.now c.args.bytes.now tt tt
+pub returns-in-Err-Memory : goal.returns-in-Err-Memory
+returns-in-Err-Memory c = c.found_alone.ensures c.args.schema.now c.args.bytes.now tt tt
 
-pub returns-clause-found : goal.returns-clause-found
-returns-clause-found c =
+pub returns : goal.returns
+returns c =
     let s = c.args.schema.now in
     let b = c.args.bytes.now in
     let p = c.args.sound in

@@ -3,7 +3,7 @@ use Rattle.edi_line.specs.LineKinds.{bears, is_remark}
 use Rattle.edi_explain.specs.inner.Skipped.{is_quality_content, is_quality_line}
 use Rattle.edi_explain.proofs.Quality.{quality_counted, quality_read}
 use Rattle.edi_explain.proofs.Remarks.{all_fine, fine_step, lines_more, no_lines, remark_read, remarks_counted}
-use Rattle.edi_explain.proofs.skipped.left_out.Goals as goal
+use Rattle.edi_explain.proofs.skipped.count_left_out.Goals as goal
 
 pub loop-rest-init : goal.loop-rest-init
 loop-rest-init c =
