@@ -2,7 +2,7 @@
 
 ghost use Rattle.std.specs.Prelude.{◌≡◌, ◌<◌, ℕ, IfOk, map};
 ghost use Rattle.std.specs.List.{range_with_len};
-ghost use Rattle.edi_report.specs.Values.{GivesEach};
+ghost use Rattle.edi_report.specs.Values.{AreValuesOf};
 
 use std::alloc::{AllocError, Global};
 
@@ -13,7 +13,7 @@ pub fn values_of_places<T: Drop, F: Fn(u32) -> T>(
     value: F,
 ) -> Result<Vec<T>, AllocError>
     requires { (place : ℕ) → place < count → F.pre value place }
-    ensures { (f : ℕ → T) → GivesEach (F.post value) f count
+    ensures { (f : ℕ → T) → AreValuesOf (F.post value) f count
         → IfOk result (λ values. values.items ≡ map f (range_with_len 0 count)) }
 {
     let mut values = Vec::new(alloc);
