@@ -1,5 +1,5 @@
 -- A matching holds exactly if what is asked of each record holds.
-use Rattle.std.proofs.Common.{◌≡◌, ◌↔◌, ℕ, ◌+◌, ◌<◌, Bool, true, true≢false, IsTrue, List, ◌∷◌, drop, length, slice_index, Option, None, Some, Result, Ok, Err, IfOk, get_or, refl, sym, ap, ◌∙◌, subst, arith, add-one, drop-cons}
+use Rattle.std.proofs.Common.{◌≡◌, ◌↔◌, ℕ, ◌+◌, ◌<◌, Bool, true, true≢false, IsTrue, List, ◌∷◌, drop, length, Option, None, Some, Result, Ok, Err, IfOk, get_or, refl, sym, ap, ◌∙◌, subst, arith, add-one, drop-cons}
 use Rattle.std.specs.List.{AllByRecursion}
 use Rattle.std.specs.Option.{is_some}
 use Rattle.edi_record.specs.declared.record.Kind.TheVariants.{Par}
@@ -7,10 +7,9 @@ use Rattle.edi_schema.specs.Classes.{Classes}
 use Rattle.edi_plan.specs.Plans.{PlanData, IsPlace, record_at}
 use Rattle.edi_plan.specs.declared.record.PlanEnd.{PlanEnd}
 use Rattle.edi_rank.specs.Labelling.{turned_at}
-use Rattle.edi_rank.specs.Same.{CarriesRecord}
-use Rattle.edi_matching.specs.Matchings.{GoesTo, IsMatched, MatchingHolds, targets_of}
+use Rattle.edi_matching.specs.Matchings.{GoesTo, IsMatched, MatchingHolds}
 use Rattle.edi_matching.specs.inner.Marks.{GoApart}
-use Rattle.edi_matching.specs.inner.Proposals.{Proposal, HoldsAt, IsCarriedOnto}
+use Rattle.edi_matching.specs.inner.Proposals.{Proposal, HoldsAt, IsCarriedOnto, proposal_of}
 use Rattle.edi_matching.specs.declared.matching.Matching.{Matching}
 use Rattle.edi_matching.proofs.Totals.{goes_within}
 
@@ -59,18 +58,9 @@ holds_known m i j goes arc ends (Ok answer) contents = (λ t. holds (contents.0 
 
 -- all of them
 
-module _ (s : Classes) (p q : PlanData) (m : Matching) (targets : List ℕ) (same : targets ≡ targets_of m.to) where
-  abbrev proposal : Proposal
-  proposal = record { classes = s; plan = p; other = q; to = m.to; targets = targets; turned = m.turned }
-
-  carried : (i j : ℕ) → IsCarriedOnto proposal i j → CarriesRecord s (slice_index (targets_of m.to)) (turned_at m.turned) i (record_at p i) (record_at q j)
-  carried i j c = subst (λ (ts : List ℕ). CarriesRecord s (slice_index ts) (turned_at m.turned) i (record_at p i) (record_at q j)) same c
-
-  carried_back : (i j : ℕ) → CarriesRecord s (slice_index (targets_of m.to)) (turned_at m.turned) i (record_at p i) (record_at q j) → IsCarriedOnto proposal i j
-  carried_back i j c = subst (λ (ts : List ℕ). CarriesRecord s (slice_index ts) (turned_at m.turned) i (record_at p i) (record_at q j)) (sym same) c
-
-  pub all_hold : length m.to ≡ length p.list → length m.turned ≡ length p.list → GoApart m.to (length q.list)
-      → ((i : ℕ) → IsPlace p i → HoldsAt proposal i) → MatchingHolds s p q m
+module _ (s : Classes) (p q : PlanData) (m : Matching) where
+  all_hold : length m.to ≡ length p.list → length m.turned ≡ length p.list → GoApart m.to (length q.list)
+      → ((i : ℕ) → IsPlace p i → HoldsAt (proposal_of s p q m) i) → MatchingHolds s p q m
   all_hold entered directed apart each = record {
     all_entered = entered;
     all_directed = directed;
@@ -78,23 +68,16 @@ module _ (s : Classes) (p q : PlanData) (m : Matching) (targets : List ℕ) (sam
     apart = apart.apart;
     arcs = λ i h. (each i h).arc;
     ends = λ i j e. (each i (place i j e)).ends j e;
-    each = λ i j e. carried i j ((each i (place i j e)).carries j e);
+    each = λ i j e. (each i (place i j e)).carries j e;
   }
     where
       place : (i j : ℕ) → GoesTo m.to i j → IsPlace p i
       place i j e = let less = goes_within m.to i j e in omega (arith, less, entered)
 
-  pub each_holds : MatchingHolds s p q m → (i : ℕ) → IsPlace p i → HoldsAt proposal i
-  each_holds holds i h = record { arc = holds.arcs i h; ends = holds.ends i; carries = λ j e. carried_back i j (holds.each i j e) }
+  each_holds : MatchingHolds s p q m → (i : ℕ) → IsPlace p i → HoldsAt (proposal_of s p q m) i
+  each_holds holds i h = record { arc = holds.arcs i h; ends = holds.ends i; carries = holds.each i }
 
--- the same of plans and lists that are those of the matching
-pub all_reported : {E : Type 0} (s : Classes) (p q p' q' : PlanData) (m : Matching) (to : List (Option ℕ)) (turned : List Bool) (targets : List ℕ) → p' ≡ p → q' ≡ q → to ≡ m.to → turned ≡ m.turned → targets ≡ targets_of to
-    → length to ≡ length p'.list → length turned ≡ length p'.list → GoApart to (length q'.list) → (r : Result Bool E)
-    → IfOk r (λ answer. IsTrue answer ↔ ((i : ℕ) → IsPlace p' i → HoldsAt (record { classes = s; plan = p'; other = q'; to = to; targets = targets; turned = turned }) i))
-    → IfOk r (λ answer. IsTrue answer ↔ MatchingHolds s p q m)
-all_reported s p q p' q' m to turned targets is is' same same' aim entered directed apart (Err e) contents = tt
-all_reported s p q p' q' m to turned targets is is' same same' aim entered directed apart (Ok answer) contents =
-    subst (λ (x : PlanData). IsTrue answer ↔ MatchingHolds s x q m) is
-    (subst (λ (y : PlanData). IsTrue answer ↔ MatchingHolds s p' y m) is'
-    (subst (λ (n : Matching). IsTrue answer ↔ MatchingHolds s p' q' n) (λ k. record { to = same k; turned = same' k })
-    (λ t. all_hold s p' q' (record { to = to; turned = turned }) targets aim entered directed apart (contents.0 t), λ holds. contents.1 (each_holds s p' q' (record { to = to; turned = turned }) targets aim holds))))
+  pub all_reported : {E : Type 0} → length m.to ≡ length p.list → length m.turned ≡ length p.list → GoApart m.to (length q.list) → (r : Result Bool E)
+      → IfOk r (λ answer. IsTrue answer ↔ ((i : ℕ) → IsPlace p i → HoldsAt (proposal_of s p q m) i)) → IfOk r (λ answer. IsTrue answer ↔ MatchingHolds s p q m)
+  all_reported entered directed apart (Err e) contents = tt
+  all_reported entered directed apart (Ok answer) contents = (λ t. all_hold entered directed apart (contents.0 t), λ holds. contents.1 (each_holds holds))

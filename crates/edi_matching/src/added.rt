@@ -75,7 +75,7 @@ fn add_sides(
 }
 
 /// What a role of an arc becomes, if the arc is reversed or not.
-fn role_if_turned(role: Role, is_turned: bool) -> Role
+pub(crate) fn role_if_turned(role: Role, is_turned: bool) -> Role
     ensures { result ≡ (if is_turned then exchanged role else role) }
 {
     if is_turned { role.exchanged() } else { role }

@@ -25,24 +25,14 @@ pub fn check_matching(
     requires { HasClasses schema.now first.now }
     ensures { IfOk result (λ answer. IsTrue answer ↔ MatchingHolds schema.now first.now second.now matching.now) }
 {
-    let plan = first.sound().plan();
-    let other = second.sound().plan();
+    let count = first.sound().plan().len() as usize;
     let to = matching.to.as_slice();
-    let turned = matching.turned.as_slice();
-    if to.len() != plan.len() as usize || turned.len() != plan.len() as usize {
+    if to.len() != count || matching.turned.as_slice().len() != count {
         return Ok(false);
     }
-    if !are_apart(alloc, to, other.len())? {
+    if !are_apart(alloc, to, second.sound().plan().len())? {
         return Ok(false);
     }
     let targets = targets_of(alloc, to)?;
-    let proposed = Proposed {
-        schema,
-        plan,
-        other,
-        to,
-        targets: &targets,
-        turned,
-    };
-    proposed.all_hold(alloc)
+    Proposed::of(schema, first, second, matching, &targets).all_hold(alloc)
 }

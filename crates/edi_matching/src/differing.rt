@@ -8,7 +8,7 @@ ghost use Rattle.edi_matching.specs.Laws.{matching_of};
 ghost use Rattle.edi_matching.specs.Matchings.{MatchingHolds};
 
 use crate::faces::with_all_faces;
-use crate::growing::grown;
+use crate::growing::grow;
 use crate::links::with_all_links;
 use crate::matching::Matching;
 use crate::partners::Partners;
@@ -61,8 +61,8 @@ fn different_matching(
     ensures links { IfOk result (MatchesLinks schema.now first.now second.now) }
 {
     schema.keeps();
-    let matching = matched_by_keys(alloc, first.sound(), second.sound())?;
-    let more = grown(alloc, schema, first, second, matching)?;
+    let matching = matching_by_keys(alloc, first.sound(), second.sound())?;
+    let more = grow(alloc, schema, first, second, matching)?;
     first.sound().plan().keeps();
     let faces = with_all_faces(alloc, schema, first, second, more)?;
     with_all_links(alloc, schema, first, second, faces)
@@ -86,7 +86,7 @@ fn all_matched(alloc: Global, places: &[u32]) -> Result<Vec<Option<u32>>, AllocE
 }
 
 /// The matching of nodes and arcs with their partners.
-fn matched_by_keys(alloc: Global, first: &Sound, second: &Sound) -> Result<Matching, AllocError>
+fn matching_by_keys(alloc: Global, first: &Sound, second: &Sound) -> Result<Matching, AllocError>
     ensures holds { (s : Classes) → IfOk result (MatchingHolds s first.now second.now) }
     ensures partners { IfOk result (MatchesPartners first.now second.now) }
 {

@@ -274,7 +274,7 @@ fn object_among(plan: &Plan, ends: &[PlanEnd]) -> Option<u32>
 }
 
 /// What a link holds, with this class and these ends.
-fn link_key<'a>(
+pub(crate) fn link_key<'a>(
     alloc: Global,
     plan: &'a Plan,
     place: u32,

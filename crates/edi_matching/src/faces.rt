@@ -3,7 +3,6 @@
 
 ghost use Rattle.std.specs.Prelude.{◌≡◌, ◌↔◌, ◌<◌, ℕ, IfOk, IsTrue, length};
 ghost use Rattle.edi_record.specs.declared.record.Kind.TheVariants.{Par, Pfe};
-ghost use Rattle.edi_schema.specs.Roles.{exchanged};
 ghost use Rattle.edi_plan.specs.Agreeing.{HasClasses};
 ghost use Rattle.edi_plan.specs.Joined.{IsJoined, beside};
 ghost use Rattle.edi_plan.specs.Plans.{IsPlace, record_at};
@@ -14,6 +13,7 @@ ghost use Rattle.edi_matching.specs.inner.Contents.{AreContents};
 ghost use Rattle.edi_matching.specs.inner.Faces.{AreBesideIfAny, IsForcedIfAny, IsLeftFor};
 ghost use Rattle.edi_matching.specs.inner.Links.{AddsOnly, matching_so};
 
+use crate::added::role_if_turned;
 use crate::contents::{Contents, numbered_contents};
 use crate::entries::{ContentKey, number_of};
 use crate::links::{is_free, reached_places};
@@ -75,20 +75,10 @@ fn with_faces(
     ensures adds { IfOk result (AddsOnly Pfe first.now matching) }
     ensures faces { IfOk result (MatchesBeside role schema.now first.now second.now) }
 {
-    let plan = first.sound().plan();
-    let other = second.sound().plan();
-    plan.keeps();
-    other.keeps();
-    let to = matching.to.as_slice();
-    let targets = targets_of(alloc, to)?;
-    let proposed = Proposed {
-        schema,
-        plan,
-        other,
-        to,
-        targets: &targets,
-        turned: matching.turned.as_slice(),
-    };
+    first.sound().plan().keeps();
+    second.sound().plan().keeps();
+    let targets = targets_of(alloc, matching.to.as_slice())?;
+    let proposed = Proposed::of(schema, first, second, &matching, &targets);
     let to = proposed.with_faces(alloc, contents, role)?;
     Ok(Matching {
         to: Sequence::from_vec(to),
@@ -223,10 +213,6 @@ impl<'a> Proposed<'a> {
         requires { IsPlace self.now.plan arc }
         ensures { result ≡ role_there (matching_so self.now self.now.to) arc role }
     {
-        if self.turned[arc as usize] {
-            role.exchanged()
-        } else {
-            role
-        }
+        role_if_turned(role, self.turned[arc as usize])
     }
 }

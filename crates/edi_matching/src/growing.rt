@@ -32,7 +32,7 @@ use std::alloc::{AllocError, Global};
 const ROUNDS: u32 = 3;
 
 /// A matching that matches what this one does, and more if that holds.
-pub(crate) fn grown(
+pub(crate) fn grow(
     alloc: Global,
     schema: &Schema,
     first: &Accepted,
@@ -161,11 +161,11 @@ fn with_more(
     ensures { IfOk result (IsMore matching.now) }
 {
     let turned = matching.turned.as_slice();
-    let mut to = copied(alloc, matching.to.as_slice())?;
+    let mut to = Vec::from_slice(alloc, matching.to.as_slice())?;
     add_more(alloc, schema, first, second, turned, &mut to)?;
     Ok(Matching {
         to: Sequence::from_vec(to),
-        turned: Sequence::from_vec(copied(alloc, turned)?),
+        turned: Sequence::from_vec(Vec::from_slice(alloc, turned)?),
     })
 }
 
@@ -328,12 +328,6 @@ fn matched_places(alloc: Global, to: &[Option<u32>]) -> Result<Vec<bool>, AllocE
     ensures { IfOk result (λ marks. marks.items ≡ map (λ target. is_some target) to.now) }
 {
     to.iter().map(|target| target.is_some()).collect(alloc)
-}
-
-fn copied<T: Copy>(alloc: Global, values: &[T]) -> Result<Vec<T>, AllocError>
-    ensures { IfOk result (λ copy. copy.items ≡ values.now) }
-{
-    values.iter().copied().collect(alloc)
 }
 
 fn each_to_itself(alloc: Global, plan: &Plan) -> Result<Vec<Option<u32>>, AllocError>

@@ -14,13 +14,14 @@ ghost use Rattle.edi_matching.specs.Differences.{MatchesLinks};
 ghost use Rattle.edi_matching.specs.Matchings.{IsMatched, MatchingHolds, targets_of};
 ghost use Rattle.edi_matching.specs.inner.Links.{AddsOnly, AreReached, IsLeftIfAny, IsMarked, IsMissedIfAny, IsMoreReached, ListsFree, key_there, matching_so, moved_key};
 
+use crate::entries::link_key;
 use crate::keys::member_with;
 use crate::matching::Matching;
 use crate::places::targets_of;
 use crate::record::Proposed;
 use edi_compare::Accepted;
-use edi_line::{BorrowedList, ListOfBorrowed, Sequence};
-use edi_plan::{Plan, PlanEnd, sorted_attributes};
+use edi_line::Sequence;
+use edi_plan::{Plan, PlanEnd};
 use edi_rank::{LinkKey, NumberedEnd, class_turned, numbered_end};
 use edi_record::Kind;
 use edi_schema::{ClassRef, Schema};
@@ -40,20 +41,10 @@ pub(crate) fn with_all_links(
     ensures adds { IfOk result (AddsOnly Lnk first.now matching) }
     ensures links { IfOk result (MatchesLinks schema.now first.now second.now) }
 {
-    let plan = first.sound().plan();
-    let other = second.sound().plan();
-    plan.keeps();
-    other.keeps();
-    let to = matching.to.as_slice();
-    let targets = targets_of(alloc, to)?;
-    let proposed = Proposed {
-        schema,
-        plan,
-        other,
-        to,
-        targets: &targets,
-        turned: matching.turned.as_slice(),
-    };
+    first.sound().plan().keeps();
+    second.sound().plan().keeps();
+    let targets = targets_of(alloc, matching.to.as_slice())?;
+    let proposed = Proposed::of(schema, first, second, &matching, &targets);
     let to = proposed.with_links(alloc)?;
     Ok(Matching {
         to: Sequence::from_vec(to),
@@ -235,13 +226,7 @@ fn moved_key<'b>(
 {
     plan.keeps();
     let ends = moved_ends(alloc, plan, targets, plan.ends(place))?;
-    let attributes = sorted_attributes(alloc, plan.attributes(place))?;
-    Ok(LinkKey {
-        class,
-        ends: Sequence::from_vec(ends),
-        attributes: ListOfBorrowed::from_vec(attributes),
-        extras: BorrowedList::of(plan.extras(place)),
-    })
+    link_key(alloc, plan, place, class, ends)
 }
 
 /// The ends of a link where they go: the origin, and the others in order.

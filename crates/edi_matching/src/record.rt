@@ -3,12 +3,14 @@
 ghost use Rattle.std.specs.Prelude.{◌≡◌, ◌↔◌, ◌<◌, ℕ, IfOk, IsTrue, length, true};
 ghost use Rattle.std.specs.List.{AllByRecursion};
 ghost use Rattle.edi_record.specs.declared.record.Kind.TheVariants.{Par};
+ghost use Rattle.edi_plan.specs.Agreeing.{HasClasses};
 ghost use Rattle.edi_plan.specs.Plans.{IsPlace, record_at};
 ghost use Rattle.edi_rank.specs.Labelling.{turned_at};
-ghost use Rattle.edi_matching.specs.Matchings.{GoesTo, IsMatched};
-ghost use Rattle.edi_matching.specs.inner.Proposals.{HoldsAt, IsCarriedOnto};
+ghost use Rattle.edi_matching.specs.Matchings.{GoesTo, IsMatched, targets_of};
+ghost use Rattle.edi_matching.specs.inner.Proposals.{HoldsAt, IsCarriedOnto, proposal_of};
 
-use edi_compare::Carrier;
+use crate::matching::Matching;
+use edi_compare::{Accepted, Carrier};
 use edi_plan::{Plan, PlanEnd};
 use edi_record::Kind;
 use edi_schema::Schema;
@@ -52,6 +54,31 @@ impl<'a> Model for Proposed<'a> {
 }
 
 impl<'a> Proposed<'a> {
+    /// What a matching of two sheets proposes, where these are its targets.
+    pub(crate) fn of(
+        schema: &'a Schema,
+        first: &'a Accepted,
+        second: &'a Accepted,
+        matching: &'a Matching,
+        targets: &'a [u32],
+    ) -> Proposed<'a>
+        requires classes { HasClasses schema.now first.now }
+        requires entered { length matching.now.to ≡ length first.now.list }
+        requires directed { length matching.now.turned ≡ length first.now.list }
+        requires within { (i j : ℕ) → GoesTo matching.now.to i j → IsPlace second.now j }
+        requires targets { targets.now ≡ targets_of matching.now.to }
+        ensures { result ≡ proposal_of schema.now first.now second.now matching.now }
+    {
+        Proposed {
+            schema,
+            plan: first.sound().plan(),
+            other: second.sound().plan(),
+            to: matching.to.as_slice(),
+            targets,
+            turned: matching.turned.as_slice(),
+        }
+    }
+
     /// Whether what is asked of a record holds of each.
     pub(crate) fn all_hold(&self, alloc: Global) -> Result<bool, AllocError>
         ensures { IfOk result (λ answer. IsTrue answer ↔ ((i : ℕ) → IsPlace self.now.plan i → HoldsAt self.now i)) }

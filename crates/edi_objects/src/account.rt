@@ -19,7 +19,7 @@ use crate::bounds::{BoundCounts, count_at};
 use crate::elements::{SheetNamer, push_points_change};
 use crate::further::further_outlines;
 use crate::index::index_of;
-use crate::marks::{arriving, became_of, differing, parts_at, same_of};
+use crate::marks::{arriving_marks, became_of, differing_marks, parts_at, same_of};
 use crate::names::Namer;
 use crate::outlines::{is_marked, outlines};
 use edi_plan::Plan;
@@ -117,8 +117,8 @@ impl<'a> ObjectReporter<'a> {
         requires second { Agrees namer.now.classes report.now.second.accepted }
         ensures { IfOk result (λ account. account ≡ record { naming = namer.now; report = report.now }) }
     {
-        let differing = differing(alloc, report)?;
-        let arriving = arriving(alloc, report)?;
+        let differing = differing_marks(alloc, report)?;
+        let arriving = arriving_marks(alloc, report)?;
         let here = Notes::of(alloc, report.first.accepted.sound().plan(), differing)?;
         let there = Notes::of(alloc, report.second.accepted.sound().plan(), arriving)?;
         let further = further_outlines(alloc, report, &here.outlines, &there.outlines)?;

@@ -16,7 +16,7 @@ use crate::outlines::{bounds_type, is_marked};
 use edi_line::push_number;
 use edi_plan::Plan;
 use edi_record::Kind;
-use edi_report::{Parts, Reporter};
+use edi_report::{Parts, Reporter, values_of_places};
 use edi_schema::Role;
 use std::alloc::{AllocError, Global};
 
@@ -45,8 +45,8 @@ impl BoundCounts {
     {
         let plan = report.first.accepted.sound().plan();
         let other = report.second.accepted.sound().plan();
-        let lost = lost(alloc, report, &here.marks)?;
-        let bent = bent(alloc, report, &here.marks, &lost)?;
+        let lost = lost_marks(alloc, report, &here.marks)?;
+        let bent = bent_marks(alloc, report, &here.marks, &lost)?;
         Ok(BoundCounts {
             gone: bounds_counts(alloc, plan, &here.index, &lost)?,
             new: bounds_counts(alloc, other, &there.index, &there.marks)?,
@@ -56,15 +56,15 @@ impl BoundCounts {
 }
 
 /// Of each record of the first sheet, whether it is gone or got other ends, where it is marked which differ.
-fn lost(alloc: Global, report: &Reporter<'_>, marks: &[bool]) -> Result<Vec<bool>, AllocError>
+fn lost_marks(alloc: Global, report: &Reporter<'_>, marks: &[bool]) -> Result<Vec<bool>, AllocError>
     requires { AreTested (is_differing report.now) (length report.now.first.accepted.list) marks.now }
     ensures { IfOk result (λ lost. AreTested (is_lost report.now) (length report.now.first.accepted.list) lost.items) }
 {
-    let mut lost = Vec::new(alloc);
-    for place in 0..record_count(report.first) {
-        lost.push(is_lost(report, marks, place))?;
-    }
-    Ok(lost)
+    values_of_places(
+        alloc,
+        record_count(report.first),
+        |place| is_lost(report, marks, place),
+    )
 }
 
 /// Whether a record of the first sheet is gone or got other ends.
@@ -87,7 +87,7 @@ fn is_lost_by(became: Option<u32>, parts: &Parts) -> bool
 
 /// Of each record of the first sheet, whether it is a link that is not lost, and it differs or a record by which it
 /// bounds.
-fn bent(
+fn bent_marks(
     alloc: Global,
     report: &Reporter<'_>,
     marks: &[bool],
@@ -97,11 +97,11 @@ fn bent(
     requires lost { AreTested (is_lost report.now) (length report.now.first.accepted.list) lost.now }
     ensures { IfOk result (λ bent. AreTested (is_bent report.now) (length report.now.first.accepted.list) bent.items) }
 {
-    let mut bent = Vec::new(alloc);
-    for place in 0..record_count(report.first) {
-        bent.push(is_bent(report, marks, lost, place))?;
-    }
-    Ok(bent)
+    values_of_places(
+        alloc,
+        record_count(report.first),
+        |place| is_bent(report, marks, lost, place),
+    )
 }
 
 /// Whether a link of the first sheet is not lost, and it differs or a record by which it bounds.
@@ -152,11 +152,11 @@ fn bounds_counts(
     ensures { IfOk result (λ counts. counts.items
         ≡ map (bounds_count (is_marked_place marks.now) plan.now) (range_with_len 0 (length plan.now.list))) }
 {
-    let mut counts = Vec::new(alloc);
-    for place in 0..plan.len() {
-        counts.push(bounds_count(plan, index, marks, place))?;
-    }
-    Ok(counts)
+    values_of_places(
+        alloc,
+        plan.len(),
+        |place| bounds_count(plan, index, marks, place),
+    )
 }
 
 /// How many links that bound a record are marked.

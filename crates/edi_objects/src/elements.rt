@@ -120,8 +120,7 @@ impl<'a> SheetNamer<'a> {
         ensures { OnOk result (text.new.items
             ≡ text.old.items ++ lone_element sign.now self.now.namer.now self.now.sheet.now place) }
     {
-        text.extend_from_slice(sign)?;
-        self.push_element(text, place)?;
+        self.push_signed(text, sign, place)?;
         text.extend_from_slice(b"\n")
     }
 

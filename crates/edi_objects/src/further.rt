@@ -12,7 +12,7 @@ use crate::marks::{became_of, record_count};
 use crate::objects::is_object;
 use crate::outlines::{is_marked, some_marked};
 use edi_plan::{Plan, PlanEnd};
-use edi_report::Reporter;
+use edi_report::{Reporter, values_of_places};
 use std::alloc::{AllocError, Global};
 
 /// Of each record of the first sheet, whether the outline differs of one that it names behind the first few.
@@ -29,7 +29,7 @@ pub(crate) fn further_outlines(
     let plan = report.first.accepted.sound().plan();
     plan.keeps();
     let others = other_outlines(alloc, report, here, there)?;
-    naming_further(alloc, plan, &others)
+    further_marks(alloc, plan, &others)
 }
 
 /// Of each record of the first sheet, whether it is a node, an arc or a face whose outline differs in either sheet.
@@ -43,11 +43,11 @@ fn other_outlines(
     requires there { AreOutlined (arrives report.now) report.now.second.accepted there.now }
     ensures { IfOk result (λ others. AreOthers report.now others.items) }
 {
-    let mut others = Vec::new(alloc);
-    for place in 0..record_count(report.first) {
-        others.push(has_other_outline(report, here, there, place))?;
-    }
-    Ok(others)
+    values_of_places(
+        alloc,
+        record_count(report.first),
+        |place| has_other_outline(report, here, there, place),
+    )
 }
 
 /// Whether this is a node, an arc or a face whose outline differs in either sheet.
@@ -80,19 +80,23 @@ fn outline_there(report: &Reporter<'_>, there: &[bool], target: Option<u32>) -> 
 }
 
 /// Of each record of a plan, whether one that it names behind the first few is marked.
-fn naming_further(alloc: Global, plan: &Plan, marks: &[bool]) -> Result<Vec<bool>, AllocError>
+fn further_marks(alloc: Global, plan: &Plan, marks: &[bool]) -> Result<Vec<bool>, AllocError>
     ensures { IfOk result (λ further. further.items
         ≡ map (names_further (is_marked_place marks.now) plan.now) (range_with_len 0 (length plan.now.list))) }
 {
-    let mut further = Vec::new(alloc);
-    for place in 0..plan.len() {
-        further.push(some_marked(marks, behind_few(plan.ends(place))))?;
-    }
-    Ok(further)
+    values_of_places(alloc, plan.len(), |place| names_further(plan, marks, place))
+}
+
+/// Whether one that a record names behind the first few is marked.
+fn names_further(plan: &Plan, marks: &[bool], place: u32) -> bool
+    requires { IsPlace plan.now place }
+    ensures { result ≡ names_further (is_marked_place marks.now) plan.now place }
+{
+    some_marked(marks, ends_behind_few(plan.ends(place)))
 }
 
 /// The ends behind the first few.
-fn behind_few(ends: &[PlanEnd]) -> &[PlanEnd]
+fn ends_behind_few(ends: &[PlanEnd]) -> &[PlanEnd]
     ensures { result.now ≡ drop 4 ends.now }
 {
     if ends.len() < MOST_NAMED {

@@ -8,19 +8,19 @@ ghost use Rattle.edi_objects.specs.inner.Sheets.{AreTested};
 ghost use Rattle.edi_report.specs.Lines.{went_to};
 ghost use Rattle.edi_report.specs.Reports.{parts_at};
 
-use edi_report::{LocatedSheet, Parts, Reporter};
+use edi_report::{LocatedSheet, Parts, Reporter, values_of_places};
 use std::alloc::{AllocError, Global};
 
 /// Of each record of the first sheet, whether it differs.
-pub(crate) fn differing(alloc: Global, report: &Reporter<'_>) -> Result<Vec<bool>, AllocError>
+pub(crate) fn differing_marks(alloc: Global, report: &Reporter<'_>) -> Result<Vec<bool>, AllocError>
     ensures { IfOk result (λ marks.
         AreTested (is_differing report.now) (length report.now.first.accepted.list) marks.items) }
 {
-    let mut marks = Vec::new(alloc);
-    for place in 0..record_count(report.first) {
-        marks.push(is_differing(report, place))?;
-    }
-    Ok(marks)
+    values_of_places(
+        alloc,
+        record_count(report.first),
+        |place| is_differing(report, place),
+    )
 }
 
 /// How many records a sheet has.
@@ -75,17 +75,17 @@ fn target_at(to: &[Option<u32>], place: usize) -> Option<u32>
 }
 
 /// Of each record of the second sheet, whether it is new, or one became it that had other ends.
-pub(crate) fn arriving(alloc: Global, report: &Reporter<'_>) -> Result<Vec<bool>, AllocError>
+pub(crate) fn arriving_marks(alloc: Global, report: &Reporter<'_>) -> Result<Vec<bool>, AllocError>
     ensures { IfOk result (λ marks.
         AreTested (arrives report.now) (length report.now.second.accepted.list) marks.items) }
 {
-    let mut marks = unreached(alloc, report.reached)?;
+    let mut marks = unreached_marks(alloc, report.reached)?;
     mark_moved(report, &mut marks);
     Ok(marks)
 }
 
 /// Of each record of the second sheet, whether none became it.
-fn unreached(alloc: Global, reached: &[bool]) -> Result<Vec<bool>, AllocError>
+fn unreached_marks(alloc: Global, reached: &[bool]) -> Result<Vec<bool>, AllocError>
     ensures { IfOk result (λ marks. marks.items ≡ map not reached.now) }
 {
     reached.iter().map(|mark| !*mark).collect(alloc)

@@ -10,6 +10,7 @@ ghost use Rattle.edi_objects.specs.inner.Sheets.{is_marked_place};
 use crate::index::entries_of;
 use edi_plan::{Plan, PlanEnd};
 use edi_record::Kind;
+use edi_report::values_of_places;
 use edi_schema::Role;
 use std::alloc::{AllocError, Global};
 
@@ -24,11 +25,11 @@ pub(crate) fn outlines(
     ensures { IfOk result (λ outlines. outlines.items
         ≡ map (outline_differs (is_marked_place marks.now) plan.now) (range_with_len 0 (length plan.now.list))) }
 {
-    let mut outlines = Vec::new(alloc);
-    for place in 0..plan.len() {
-        outlines.push(outline_differs(plan, index, marks, place))?;
-    }
-    Ok(outlines)
+    values_of_places(
+        alloc,
+        plan.len(),
+        |place| outline_differs(plan, index, marks, place),
+    )
 }
 
 /// Whether the outline of a record differs.

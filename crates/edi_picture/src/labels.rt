@@ -45,22 +45,22 @@ fn middle(numbers: &[u64]) -> u64
 fn middle_across(alloc: Global, frame: &Extent, points: &[Point]) -> Result<u64, AllocError>
     ensures { IfOk result (λ across. across ≡ middle_across frame.now points.now) }
 {
-    let mut numbers = Vec::new(alloc);
-    for point in points {
-        numbers.push(distance_between(point.x, frame.x.least))?;
-    }
-    Ok(middle(&numbers))
+    let distances: Vec<u64> = points
+        .iter()
+        .map(|point| distance_between(point.x, frame.x.least))
+        .collect(alloc)?;
+    Ok(middle(&distances))
 }
 
 /// How far it is below the greatest y.
 fn middle_down(alloc: Global, frame: &Extent, points: &[Point]) -> Result<u64, AllocError>
     ensures { IfOk result (λ down. down ≡ middle_down frame.now points.now) }
 {
-    let mut numbers = Vec::new(alloc);
-    for point in points {
-        numbers.push(distance_between(frame.y.greatest, point.y))?;
-    }
-    Ok(middle(&numbers))
+    let distances: Vec<u64> = points
+        .iter()
+        .map(|point| distance_between(frame.y.greatest, point.y))
+        .collect(alloc)?;
+    Ok(middle(&distances))
 }
 
 /// How far to the right the middle of some points is on the page.

@@ -1,3 +1,4 @@
 pub mod Packings
 pub mod Reported
 pub mod Sited
+pub mod EachPlace

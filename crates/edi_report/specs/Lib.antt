@@ -3,5 +3,6 @@ pub mod Reports
 pub mod Located
 pub mod Lines
 pub mod Tables
+pub mod Values
 pub mod Known
 pub mod inner

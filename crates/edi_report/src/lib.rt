@@ -10,9 +10,11 @@ pub mod parts;
 pub mod report;
 pub mod sheet;
 pub mod site;
+pub mod values;
 
 pub use marks::marks_of;
 pub use parts::{NO_PARTS, Parts, parts_at};
 pub use report::Reporter;
 pub use sheet::{LocatedSheet, locate_both, locate_from};
 pub use site::Site;
+pub use values::values_of_places;

@@ -59,14 +59,14 @@ impl<'a> Reporter<'a> {
         ensures { IfOk result (λ text. text.items ≡ text_of_report brief self.now) }
     {
         if brief {
-            self.short(alloc)
+            self.brief_text(alloc)
         } else {
-            self.whole(alloc)
+            self.whole_text(alloc)
         }
     }
 
     /// The line of the character sets, where they differ, and that of the counts.
-    fn short(&self, alloc: Global) -> Result<Vec<u8>, AllocError>
+    fn brief_text(&self, alloc: Global) -> Result<Vec<u8>, AllocError>
         ensures { IfOk result (λ text. text.items ≡ brief_text self.now) }
     {
         let mut text = Vec::new(alloc);
@@ -76,7 +76,7 @@ impl<'a> Reporter<'a> {
     }
 
     /// The whole text.
-    fn whole(&self, alloc: Global) -> Result<Vec<u8>, AllocError>
+    fn whole_text(&self, alloc: Global) -> Result<Vec<u8>, AllocError>
         ensures { IfOk result (λ text. text.items ≡ report_text self.now) }
     {
         let mut text = Vec::new(alloc);

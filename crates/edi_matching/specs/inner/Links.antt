@@ -4,8 +4,6 @@ use Rattle.std.specs.List.{AllByRecursion}
 use Rattle.edi_record.specs.declared.record.Kind.{Kind}
 use Rattle.edi_record.specs.declared.record.Kind.TheVariants.{Lnk}
 use Rattle.edi_schema.specs.Classes.{partner_of}
-use Rattle.edi_schema.specs.Sorted.{sort_by}
-use Rattle.edi_plan.specs.Orders.{attribute_cmp}
 use Rattle.edi_plan.specs.Plans.{PlanData, IsPlace, record_at}
 use Rattle.edi_plan.specs.declared.record.PlanRecord.{PlanRecord}
 use Rattle.edi_rank.specs.Keys.{ends_key, link_key}
@@ -15,6 +13,7 @@ use Rattle.edi_rank.specs.declared.keys.LinkKey.{LinkKey}
 use Rattle.edi_matching.specs.Differences.{IsReached}
 use Rattle.edi_matching.specs.Matchings.{GoesTo, IsMatched}
 use Rattle.edi_matching.specs.declared.matching.Matching.{Matching}
+use Rattle.edi_matching.specs.inner.Entries.{link_key_with}
 use Rattle.edi_matching.specs.inner.Proposals.{Proposal, IsCarriedOnto}
 
 -- the places below n to which records go are marked, and these alone
@@ -41,12 +40,7 @@ ListsFree q marks pairs = (j : ℕ) → IsPlace q j → (record_at q j).kind ≡
 
 -- the key that a link has where its ends go, with this class
 abbrev pub moved_key : PlanData → (ℕ → ℕ) → ℕ → PlanRecord → LinkKey
-moved_key p to class r = record {
-  class = class;
-  ends = ends_key p to r.ends;
-  attributes = sort_by attribute_cmp r.attributes;
-  extras = r.extras;
-}
+moved_key p to class r = link_key_with class (ends_key p to r.ends) r
 
 -- the key that the link at the place i has where its ends go, with its class after the reversals
 abbrev pub key_there : Proposal → ℕ → LinkKey

@@ -7,7 +7,8 @@ use Rattle.edi_plan.specs.Plans.{PlanData, IsPlace, record_at}
 use Rattle.edi_rank.specs.Labelling.{turned_at}
 use Rattle.edi_rank.specs.Same.{CarriesRecord}
 use Rattle.edi_plan.specs.Agreeing.{HasClasses}
-use Rattle.edi_matching.specs.Matchings.{GoesTo, IsMatched}
+use Rattle.edi_matching.specs.Matchings.{GoesTo, IsMatched, targets_of}
+use Rattle.edi_matching.specs.declared.matching.Matching.{Matching}
 
 -- two plans of one schema, where it is proposed that the records of the first go, if anywhere, the same as places, and
 -- which are turned
@@ -18,6 +19,11 @@ pub record Proposal : Type 0 where
   pub to : List (Option ℕ)
   pub targets : List ℕ
   pub turned : List Bool
+
+-- what a matching of two plans proposes
+abbrev pub proposal_of : Classes → PlanData → PlanData → Matching → Proposal
+proposal_of s p q m =
+    record { classes = s; plan = p; other = q; to = m.to; targets = targets_of m.to; turned = m.turned }
 
 -- each record has an entry, and where it goes is a place of the other plan
 pub record IsWithinPlans (m : Proposal) : Type 0 where

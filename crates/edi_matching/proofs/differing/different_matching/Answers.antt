@@ -10,8 +10,8 @@ use Rattle.edi_matching.proofs.PartnersHold.{partners_kept}
 use Rattle.edi_matching.proofs.SamePlans.{accepted_classed}
 use Rattle.edi_matching.proofs.differing.different_matching.Goals as goal
 
-pub grown-requires : goal.grown-requires
-grown-requires c =
+pub grow-requires : goal.grow-requires
+grow-requires c =
     let s = c.args.schema.now in
     let m = c.in_ok-matching.matching in
     record {

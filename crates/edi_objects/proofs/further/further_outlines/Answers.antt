@@ -9,4 +9,4 @@ returns c =
     let r = c.args.report.now in
     let first = c.plan-plan.ensures.plan ∙ (c.sound.ensures ∙ ap (λ (x : Report). x.first.accepted) c.report.view_is) in
     let others = subst (λ (marks : List Bool). AreOthers r marks) (sym c.deref.ensures.value) c.in_ok-others.ensures in
-    further_found r c.plan-plan.result.now c.deref.result.now c.naming_further.result (λ further. further.items) first c.keeps.ensures.whole others c.naming_further.ensures
+    further_found r c.plan-plan.result.now c.deref.result.now c.further_marks.result (λ further. further.items) first c.keeps.ensures.whole others c.further_marks.ensures

@@ -1,14 +1,17 @@
-use Rattle.std.proofs.Common.{◌∙◌, ◌++◌, ◌∷◌, [], Bool, List, ap, ap₂, arith, length, sym}
+use Rattle.std.proofs.Common.{◌≡◌, ap, arith, length, map, rules}
+use Rattle.std.specs.List.{range_with_len}
+use Rattle.std.proofs.lemmas.Result.{IfOk-weaker}
 use Rattle.edi_report.specs.Reports.{Report}
-use Rattle.std.proofs.lemmas.List.FromFn.{map-range_with_len_more}
 use Rattle.edi_objects.specs.Objects.{has_other_outline}
+use Rattle.edi_objects.specs.inner.Sheets.{AreOthers}
 use Rattle.edi_objects.proofs.NamedBehind.{noted}
 use Rattle.edi_objects.proofs.further.other_outlines.Goals as goal
 
-pub loop-place-preserved : goal.loop-place-preserved
-loop-place-preserved c = c.in_ok-push.ensures.items ∙ (ap₂ (λ (xs : List Bool) (b : Bool). xs ++ b ∷ []) c.loop-place.invariant c.has_other_outline.ensures
-    ∙ sym (map-range_with_len_more (has_other_outline c.args.report.now) 0 c.loop-place.place c.loop-place.place (omega arith)))
-
 pub returns : goal.returns
-returns c = λ i h. noted (has_other_outline c.args.report.now) c.loop-place.place c.loop-place.others.items c.loop-place.invariant i
-    (omega (arith, h, ap (λ (x : Report). length x.first.accepted.list) c.report.view_is))
+returns c =
+    let r = c.args.report.now in
+    let n = c.record_count.result in
+    let long = ap (λ (x : Report). length x.first.accepted.list) c.report.view_is in
+    IfOk-weaker c.values_of_places.result (λ others. others.items ≡ map (has_other_outline r) (range_with_len 0 n)) (λ others. AreOthers r others.items)
+    (λ others is. λ i h. noted (has_other_outline r) n others.items is i (omega (arith, h, c.record_count.ensures, long)))
+    (c.values_of_places.ensures (has_other_outline r) (λ k less x p. search rules))

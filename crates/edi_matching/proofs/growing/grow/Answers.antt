@@ -2,7 +2,7 @@ use Rattle.std.proofs.Common.{ℕ, List, Option, subst, sym}
 use Rattle.edi_plan.specs.Plans.{PlanData}
 use Rattle.edi_compare.specs.Laws.{IsAcceptedPlan}
 use Rattle.edi_matching.specs.Matchings.{IsMatched}
-use Rattle.edi_matching.proofs.growing.grown.Goals as goal
+use Rattle.edi_matching.proofs.growing.grow.Goals as goal
 
 pub returns-then-branch-clause-keeps : goal.returns-then-branch-clause-keeps
 returns-then-branch-clause-keeps c =

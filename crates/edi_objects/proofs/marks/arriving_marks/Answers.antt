@@ -5,7 +5,7 @@ use Rattle.edi_objects.specs.Differing.{arrives}
 use Rattle.edi_objects.specs.inner.Marks.{is_moved_onto}
 use Rattle.edi_objects.specs.inner.Sheets.{AreTested}
 use Rattle.edi_objects.proofs.Marked.{tested_arriving, written_back}
-use Rattle.edi_objects.proofs.marks.arriving.Goals as goal
+use Rattle.edi_objects.proofs.marks.arriving_marks.Goals as goal
 
 pub returns : goal.returns
 returns c =

@@ -1,8 +1,0 @@
-use Rattle.std.proofs.Common.{◌≡◌, map}
-use Rattle.std.specs.List.{range_with_len}
-use Rattle.edi_objects.specs.Differing.{outline_differs}
-use Rattle.edi_objects.specs.inner.Sheets.{is_marked_place}
-use Rattle.edi_objects.proofs.outlines.outlines.Given as goal
-
-abbrev pub invariant-loop-place : goal.invariant-loop-place
-invariant-loop-place l = l.outlines.items ≡ map (outline_differs (is_marked_place l.marks) l.plan) (range_with_len 0 l.place)
