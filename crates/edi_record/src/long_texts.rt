@@ -1,10 +1,10 @@
 //! Texts that come again: long ones, and the starts of pointers and the classes that many share.
 
-ghost use Rattle.std.specs.Prelude.{◌≡◌, ◌<◌, length, IfOk, OnOk};
+ghost use Rattle.std.specs.Prelude.{◌≡◌, ◌<◌, ◌≤◌, length, IfOk, OnOk};
 
 use crate::name::Name;
 use crate::pointer::Pointer;
-use crate::shared_parts::{PointerStart, SPREAD, SharedParts, last_bytes};
+use crate::shared_parts::{PointerStart, SharedParts};
 use edi_line::Text;
 use std::alloc::{AllocError, Global};
 use std::sync::Arc;
@@ -12,12 +12,18 @@ use std::sync::Arc;
 // How many long texts are kept.
 const SLOTS: usize = 1024;
 
+// How many bytes at the end of a text choose its slot.
+const LAST: usize = 8;
+
+// An odd number of 64 bits, by which the bytes that choose a slot are spread.
+const SPREAD: u64 = 0x9E37_79B9_7F4A_7C15;
+
 // How far the spread bytes are shifted, so that the number of a slot is left.
 const SHIFT: u32 = 54;
 
-/// The last long texts that came, each in the slot that its last bytes choose. The name of a class comes with each record of
-/// the class, and that of an arc with each link that joins it: such a text is made once, and its copies share its
-/// memory. Which texts are kept decides how much memory is taken, and nothing else.
+/// The last long texts that came, each in the slot that its last bytes choose, and the shared parts of pointers. The
+/// identifier of an arc comes with each link that joins it: a long one is made once, and its copies share its memory.
+/// Which texts are kept decides how much memory is taken, and nothing else.
 #[derive(Drop)]
 pub(crate) struct LongTexts {
     pub(crate) alloc: Global,
@@ -29,9 +35,15 @@ pub(crate) struct LongTexts {
 
 /// The slot of a text.
 fn slot_of(text: &[u8]) -> usize
+    requires { 8 ≤ length text.now }
     ensures { result < 1024 }
 {
-    (last_bytes(text).wrapping_mul(SPREAD) >> SHIFT) as usize
+    let (_, last) = text.split_at(text.len() - LAST);
+    let [a, b, c, d, e, f, g, h] = last else {
+        return 0;
+    };
+    let number = u64::from_le_bytes([*a, *b, *c, *d, *e, *f, *g, *h]);
+    (number.wrapping_mul(SPREAD) >> SHIFT) as usize
 }
 
 impl LongTexts {

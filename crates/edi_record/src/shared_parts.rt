@@ -12,22 +12,14 @@ use std::sync::Arc;
 // How many parts of a sort are kept.
 const SLOTS: usize = 64;
 
-// An odd number of 64 bits, by which the bytes that choose a slot are spread.
-pub(crate) const SPREAD: u64 = 0x9E37_79B9_7F4A_7C15;
-
-// How far the spread bytes are shifted, so that the number of a slot is left.
-const SHIFT: u32 = 58;
-
-// How many bytes at the end of a text choose its slot.
-const LAST: usize = 8;
-
 /// A part that many pointers of a sheet have in common.
 pub(crate) trait SharedPart {
     /// It is this part of a pointer with these texts.
     ghost is_part: { Self → PointerText → Type 0 };
 
-    /// The text of a pointer whose end chooses a slot.
-    fn key<'a>(pointer: &Pointer<'a>) -> &'a [u8];
+    /// The slot of that part of a pointer, by few of its bytes.
+    fn slot(pointer: &Pointer<'_>) -> usize
+        ensures { result < 64 };
 
     /// Whether it is that part of a pointer.
     fn is_of(&self, pointer: &Pointer<'_>) -> bool
@@ -58,8 +50,11 @@ impl Drop for PointerStart {
 impl SharedPart for PointerStart {
     ghost is_part = { λ start p. start ≡ record { lot = p.lot; subset = p.subset; rty = p.rty } };
 
-    fn key<'a>(pointer: &Pointer<'a>) -> &'a [u8] {
-        pointer.rty
+    fn slot(pointer: &Pointer<'_>) -> usize {
+        match pointer.rty {
+            [.., last] => usize::from(*last) % SLOTS,
+            [] => 0,
+        }
     }
 
     fn is_of(&self, pointer: &Pointer<'_>) -> bool {
@@ -80,8 +75,15 @@ impl SharedPart for PointerStart {
 impl SharedPart for Name {
     ghost is_part = { λ name p. name ≡ record { rty = p.rty; rid = p.rid } };
 
-    fn key<'a>(pointer: &Pointer<'a>) -> &'a [u8] {
-        pointer.rid
+    // The names of classes mostly end alike, as in `_id`, so the bytes before that are taken.
+    fn slot(pointer: &Pointer<'_>) -> usize {
+        match pointer.rid {
+            [.., a, b, c, _, _, _] => {
+                (usize::from(*a) + 7 * usize::from(*b) + 31 * usize::from(*c)) % SLOTS
+            }
+            [.., last] => usize::from(*last) % SLOTS,
+            [] => 0,
+        }
     }
 
     fn is_of(&self, pointer: &Pointer<'_>) -> bool {
@@ -96,32 +98,7 @@ impl SharedPart for Name {
     }
 }
 
-/// A number made of the bytes of a short text.
-fn number_of(text: &[u8]) -> u64 {
-    let mut number: u64 = 0;
-    for byte in text {
-        number = (number << 8) | u64::from(*byte);
-    }
-    number
-}
-
-/// A number made of the last eight bytes of a text, or of all where it has fewer.
-pub(crate) fn last_bytes(text: &[u8]) -> u64 {
-    let (_, last) = text.split_at(text.len().saturating_sub(LAST));
-    let [a, b, c, d, e, f, g, h] = last else {
-        return number_of(last);
-    };
-    u64::from_le_bytes([*a, *b, *c, *d, *e, *f, *g, *h])
-}
-
-/// The slot of a text.
-fn slot_of(text: &[u8]) -> usize
-    ensures { result < 64 }
-{
-    (last_bytes(text).wrapping_mul(SPREAD) >> SHIFT) as usize
-}
-
-/// The parts of a sort that came last, each in the slot that a text of its pointer chooses. The ends of a sheet have four
+/// The parts of a sort that came last, each in its slot. The ends of a sheet have four
 /// starts between them for the most part, and its records some twenty classes: each is made once, and its copies share
 /// its memory. Which parts are kept decides how much memory is taken, and nothing else.
 #[derive(Drop)]
@@ -146,7 +123,7 @@ impl<P: SharedPart + Drop> SharedParts<P> {
     ) -> Result<Arc<P>, AllocError>
         ensures { IfOk result (λ part. P.is_part part.value (shown pointer.now)) }
     {
-        if let Some(known) = self.slots.get(slot_of(P::key(pointer)))
+        if let Some(known) = self.slots.get(P::slot(pointer))
             && known.is_of(pointer)
         {
             return known.clone();
@@ -163,7 +140,7 @@ impl<P: SharedPart + Drop> SharedParts<P> {
         for _ in self.slots.len()..SLOTS {
             self.slots.push(part.clone()?)?;
         }
-        if let Some(slot) = self.slots.get_mut(slot_of(P::key(pointer))) {
+        if let Some(slot) = self.slots.get_mut(P::slot(pointer)) {
             *slot = part.clone()?;
         }
         Ok(part)
