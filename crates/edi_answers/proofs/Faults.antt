@@ -4,15 +4,13 @@ use Rattle.edi_schema.specs.Roles.{KindCodes}
 use Rattle.edi_line.specs.declared.device.ByteIn as byte_in
 use Rattle.edi_compare.specs.declared.fault.RunFault.{RunFault}
 use Rattle.edi_compare.specs.declared.fault.RunFault.TheVariants.{Memory, Read, TooLong, Schema, First, Second, Write}
-use Rattle.edi_compare.specs.Runs.{ComparingFault, FilesFault, HasFailed, IsRead, IsTooLong, MatchFault, OfInput, OfInputOfFour, Seen, IfBothKnown, IfFourKnown, IfThreeKnown, seen}
-use Rattle.edi_compare.specs.Under.{OfTwo, SchemaFilesFault}
+use Rattle.edi_compare.specs.Runs.{FilesFault, HasFailed, IsTooLong, MatchFault, OfInput, Seen, IfBothKnown, IfThreeKnown, seen}
 use Rattle.edi_words.specs.declared.words.ManyFiles.{ManyFiles}
-use Rattle.edi_words.specs.declared.words.PairFiles.{PairFiles}
 use Rattle.edi_words.specs.declared.words.SheetFiles.{SheetFiles}
 use Rattle.edi_files.specs.declared.folder.Folder as folder
 use Rattle.edi_answers.specs.Effects.{Inputs, inputs}
 use Rattle.edi_answers.specs.Hashes.{LoadFault, schema_path_at}
-use Rattle.edi_answers.specs.SheetRuns.{AreThere, FileFault, Gives, HasFailedAt, HoldsTooMuch, IsDeviceOf, PairFileFault, pair_path_at, path_at, IsThere}
+use Rattle.edi_answers.specs.SheetRuns.{AreThere, FileFault, Gives, HasFailedAt, HoldsTooMuch, IsDeviceOf, path_at, IsThere}
 
 -- what follows from each error holds of the result
 pub if_err_map : {T E : Type 0} (r : Result T E) (P Q : E → Type 0) → ((e : E) → P e → Q e) → IfErr r P → IfErr r Q
@@ -100,34 +98,6 @@ schema_input_fault inputs kinds files scd dic k least most input gives fails (Fi
 schema_input_fault inputs kinds files scd dic k least most input gives fails (Second f) h = absurd h
 schema_input_fault inputs kinds files scd dic k least most input gives fails (Write w) h = absurd h
 
--- of a run over the two files of a schema
-module _ (inputs : Inputs) (kinds : KindCodes) (files : ManyFiles) (scd dic : Seen) (gives_scd : Gives inputs files.scd.now scd.before)
-    (gives_dic : Gives inputs files.dic.now dic.before) (scd_failed : HasFailed scd → HasFailedAt inputs files.scd.now)
-    (dic_failed : HasFailed dic → HasFailedAt inputs files.dic.now) where
-  schema_failed : (n : ℕ) → OfTwo n (IsRead scd) (HasFailed scd × dic.stays) (HasFailed dic) → HasFailedAt inputs (schema_path_at files n)
-  schema_failed zero h = absurd (omega (arith, h.0))
-  schema_failed (suc zero) h = scd_failed (h.2 refl).0
-  schema_failed (suc (suc zero)) h = dic_failed (h.3 refl).1
-  schema_failed (suc (suc (suc n))) h = absurd (omega (arith, h.1))
-
-  schema_too_long : (n : ℕ) → OfTwo n (IsRead scd) (IsTooLong scd.before × dic.stays) (IsTooLong dic.before) → HoldsTooMuch inputs (schema_path_at files n)
-  schema_too_long zero h = absurd (omega (arith, h.0))
-  schema_too_long (suc zero) h = (scd.before, gives_scd, (h.2 refl).0)
-  schema_too_long (suc (suc zero)) h = (dic.before, gives_dic, (h.3 refl).1)
-  schema_too_long (suc (suc (suc n))) h = absurd (omega (arith, h.1))
-
-  load_matched : (e : RunFault) → SchemaFilesFault kinds scd dic e → LoadFault inputs kinds files e
-  load_matched (Memory e) h = inr ((scd.before, gives_scd), (dic.before, gives_dic), tt)
-  load_matched (Read n) h = inr ((scd.before, gives_scd), (dic.before, gives_dic), (h.0, h.1, schema_failed n h))
-  load_matched (TooLong n) h = inr ((scd.before, gives_scd), (dic.before, gives_dic), (h.0, h.1, schema_too_long n h))
-  load_matched (Schema f) h = inr ((scd.before, gives_scd), (dic.before, gives_dic), (scd.before, dic.before, gives_scd, gives_dic, h))
-  load_matched (First f) h = absurd h
-  load_matched (Second f) h = absurd h
-  load_matched (Write w) h = absurd h
-
-  pub load_fault : {T : Type 0} (r : Result T RunFault) → IfErr r (SchemaFilesFault kinds scd dic) → IfErr r (LoadFault inputs kinds files)
-  load_fault r h = if_err_map r (SchemaFilesFault kinds scd dic) (LoadFault inputs kinds files) load_matched h
-
 -- the same with another fact of writing, where none was written
 pub fault_unwritten : (inputs : Inputs) (kinds : KindCodes) (files : SheetFiles) (W : ℕ → Type 0) (e : RunFault) → FileFault inputs kinds files (λ _. ⊥) e
     → FileFault inputs kinds files W e
@@ -139,78 +109,3 @@ fault_unwritten inputs kinds files W (Schema f) (inr h) = inr h
 fault_unwritten inputs kinds files W (First f) (inr h) = inr h
 fault_unwritten inputs kinds files W (Second f) (inr h) = inr h
 fault_unwritten inputs kinds files W (Write w) (inr h) = absurd h.1
-
-pub both_of_four : (a b c d : Option (List ℕ)) (P : List ℕ → List ℕ → Type 0) → IfBothKnown a b P → IfFourKnown a b c d (λ s t u v. P s t)
-both_of_four a b c None P h = tt
-both_of_four a b c (Some w) P h = both_of_three a b c P h
-
-pub three_of_four : (a b c d : Option (List ℕ)) (P : List ℕ → List ℕ → List ℕ → Type 0) → IfThreeKnown a b c P → IfFourKnown a b c d (λ s t u v. P s t u)
-three_of_four a b c None P h = tt
-three_of_four a b c (Some w) P h = h
-
-module _ (inputs : Inputs) (kinds : KindCodes) (files : PairFiles) (scd dic first second : Seen) (gives_scd : Gives inputs files.scd.now scd.before)
-    (gives_dic : Gives inputs files.dic.now dic.before) (gives_first : Gives inputs files.first.now first.before) (gives_second : Gives inputs files.second.now second.before)
-    (scd_failed : HasFailed scd → HasFailedAt inputs files.scd.now) (dic_failed : HasFailed dic → HasFailedAt inputs files.dic.now)
-    (first_failed : HasFailed first → HasFailedAt inputs files.first.now) (second_failed : HasFailed second → HasFailedAt inputs files.second.now) where
-  failed_of_four : (n : ℕ) → OfInputOfFour scd dic first second HasFailed n → HasFailedAt inputs (pair_path_at files n)
-  failed_of_four zero h = absurd (omega (arith, h.0))
-  failed_of_four (suc zero) h = scd_failed (h.2 refl).0
-  failed_of_four (suc (suc zero)) h = dic_failed (h.3 refl).1.0
-  failed_of_four (suc (suc (suc zero))) h = first_failed (h.4 refl).2.0
-  failed_of_four (suc (suc (suc (suc zero)))) h = second_failed (h.5 refl).3
-  failed_of_four (suc (suc (suc (suc (suc n))))) h = absurd (omega (arith, h.1))
-
-  pair_too_long : (n : ℕ) → OfInputOfFour scd dic first second (λ input. IsTooLong input.before) n → HoldsTooMuch inputs (pair_path_at files n)
-  pair_too_long zero h = absurd (omega (arith, h.0))
-  pair_too_long (suc zero) h = (scd.before, gives_scd, (h.2 refl).0)
-  pair_too_long (suc (suc zero)) h = (dic.before, gives_dic, (h.3 refl).1.0)
-  pair_too_long (suc (suc (suc zero))) h = (first.before, gives_first, (h.4 refl).2.0)
-  pair_too_long (suc (suc (suc (suc zero)))) h = (second.before, gives_second, (h.5 refl).3)
-  pair_too_long (suc (suc (suc (suc (suc n))))) h = absurd (omega (arith, h.1))
-
-  pair_matched : (e : RunFault) → ComparingFault kinds scd dic first second e → PairFileFault inputs kinds files (λ _. ⊥) e
-  pair_matched (Memory e) h = inr (((scd.before, gives_scd), (dic.before, gives_dic), (first.before, gives_first), (second.before, gives_second)), tt)
-  pair_matched (Read n) h =
-      inr (((scd.before, gives_scd), (dic.before, gives_dic), (first.before, gives_first), (second.before, gives_second)), (h.0, h.1, failed_of_four n h))
-  pair_matched (TooLong n) h =
-      inr (((scd.before, gives_scd), (dic.before, gives_dic), (first.before, gives_first), (second.before, gives_second)), (h.0, h.1, pair_too_long n h))
-  pair_matched (Schema f) h =
-      inr (
-        ((scd.before, gives_scd), (dic.before, gives_dic), (first.before, gives_first), (second.before, gives_second)),
-        (
-          scd.before,
-          dic.before,
-          first.before,
-          second.before,
-          gives_scd,
-          gives_dic,
-          gives_first,
-          gives_second,
-          both_of_four scd.before dic.before first.before second.before _ h,
-        ),
-      )
-  pair_matched (First f) h =
-      inr (
-        ((scd.before, gives_scd), (dic.before, gives_dic), (first.before, gives_first), (second.before, gives_second)),
-        (
-          scd.before,
-          dic.before,
-          first.before,
-          second.before,
-          gives_scd,
-          gives_dic,
-          gives_first,
-          gives_second,
-          three_of_four scd.before dic.before first.before second.before _ h,
-        ),
-      )
-  pair_matched (Second f) h =
-      inr (
-        ((scd.before, gives_scd), (dic.before, gives_dic), (first.before, gives_first), (second.before, gives_second)),
-        (scd.before, dic.before, first.before, second.before, gives_scd, gives_dic, gives_first, gives_second, h),
-      )
-  pair_matched (Write w) h = absurd h
-
-  -- of a run over four readers
-  pub pair_fault : {T : Type 0} (r : Result T RunFault) → IfErr r (ComparingFault kinds scd dic first second) → IfErr r (PairFileFault inputs kinds files (λ _. ⊥))
-  pair_fault r h = if_err_map r (ComparingFault kinds scd dic first second) (PairFileFault inputs kinds files (λ _. ⊥)) pair_matched h

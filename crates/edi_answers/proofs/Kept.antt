@@ -1,14 +1,11 @@
 -- A file of classes that was read, and is read once more from what was kept of it.
-use Rattle.std.proofs.Common.{◌≡◌, ◌≤◌, ◌<◌, ◌⊎◌, ◌∙◌, ℕ, Bool, false, List, length, Option, Some, None, IfSome, IsTrue, Result, Ok, Err, IfErr, OnOk, inl, sym, ap, subst, arith}
+use Rattle.std.proofs.Common.{◌≡◌, ◌≤◌, ◌<◌, ◌∙◌, ℕ, Bool, false, List, length, Option, Some, None, IfSome, IsTrue, Result, Ok, Err, IfErr, OnOk, sym, ap, subst, arith}
 use Rattle.std.specs.Prelude.{IfOk, ⊤}
 use Rattle.std.specs.Bool.{MatchBool}
 use Rattle.edi_schema.specs.Roles.{KindCodes}
 use Rattle.edi_compare.specs.declared.fault.RunFault.{RunFault}
 use Rattle.edi_compare.specs.declared.fault.RunFault.TheVariants.{Memory, Read, TooLong, Schema, First, Second, Write}
-use Rattle.edi_compare.specs.Runs.{ComparingFault, FilesFault, HasFailed, IsRead, IsTooLong, MatchFault, Seen, IfBothKnown, IfFourKnown, IfThreeKnown, RefusesSchema, RefusesSecond, RefusesSheet, most_bytes}
-use Rattle.edi_pairing.specs.UnderFiles.{MatchRun}
-use Rattle.edi_pairing.specs.declared.fault.VerifyRunFault.{VerifyRunFault}
-use Rattle.edi_pairing.specs.declared.fault.VerifyRunFault.TheVariants.{Run, Pairing as OfPairingFile}
+use Rattle.edi_compare.specs.Runs.{FilesFault, HasFailed, IsRead, IsTooLong, MatchFault, Seen, IfBothKnown, IfThreeKnown, RefusesSchema, RefusesSheet, most_bytes}
 use Rattle.edi_shown.specs.Shown.{shown_bytes}
 use Rattle.edi_answers.specs.Effects.{Inputs}
 use Rattle.edi_answers.specs.Notes.{GivesNote, IsNoteOn}
@@ -31,18 +28,10 @@ three_known : (a b c : Option (List ℕ)) (x : List ℕ) (P : List ℕ → List 
 three_known None b c x P f h = tt
 three_known (Some m) b c x P f h = subst (λ t. IfSome b (λ y. IfSome c (λ z. P t y z))) f h
 
-four_known : (a b c d : Option (List ℕ)) (x : List ℕ) (P : List ℕ → List ℕ → List ℕ → List ℕ → Type 0) → IfSome a (λ t. x ≡ t) → IfFourKnown (Some x) b c d P
-    → IfFourKnown a b c d P
-four_known a b c None x P f h = tt
-four_known a b c (Some w) x P f h = three_known a b c x (λ s t u. P s t u w) f h
-
 -- over the codes of a run, which are those that were given, and what was kept
 module _ (k kinds : KindCodes) (is : k ≡ kinds) (o a : Option (List ℕ)) (x : List ℕ) (holds : o ≡ Some x) (all : IfSome a (λ t. x ≡ t)) where
   pub three_kept : (b c : Option (List ℕ)) (P : KindCodes → List ℕ → List ℕ → List ℕ → Type 0) → IfThreeKnown o b c (P k) → IfThreeKnown a b c (P kinds)
   three_kept b c P h = three_known a b c x (P kinds) all (subst (λ (u : Option (List ℕ)). IfThreeKnown u b c (P kinds)) holds (subst (λ l. IfThreeKnown o b c (P l)) is h))
-
-  pub four_kept : (b c d : Option (List ℕ)) (P : KindCodes → List ℕ → List ℕ → List ℕ → List ℕ → Type 0) → IfFourKnown o b c d (P k) → IfFourKnown a b c d (P kinds)
-  four_kept b c d P h = four_known a b c d x (P kinds) all (subst (λ (u : Option (List ℕ)). IfFourKnown u b c d (P kinds)) holds (subst (λ l. IfFourKnown o b c d (P l)) is h))
 
 -- ---- why a run over what was kept has no answer is why one over the file has none
 
@@ -75,30 +64,6 @@ module _ (k kinds : KindCodes) (is : k ≡ kinds) (real kept : Seen) (x : List �
   files_kept dic vec W (First f) h = three_kept k kinds is kept.before real.before x holds all dic.before vec.before (λ l s d v. RefusesSheet l s d v f) h
   files_kept dic vec W (Second f) h = absurd h
   files_kept dic vec W (Write w) h = h
-
-  -- of a run over four
-  pub pair_kept : (dic first second : Seen) (e : RunFault) → ComparingFault k kept dic first second e → ComparingFault kinds real dic first second e
-  pair_kept dic first second (Memory e) h = tt
-  pair_kept dic first second (Read n) h = (
-    h.0,
-    h.1,
-    λ one. fails_never _ (h.2 one).0,
-    λ two. (whole, (h.3 two).1),
-    λ three. (whole, (h.4 three).1, (h.4 three).2),
-    λ four. (whole, (h.5 four).1, (h.5 four).2, (h.5 four).3),
-  )
-  pair_kept dic first second (TooLong n) h = (
-    h.0,
-    h.1,
-    λ one. (too_long (h.2 one).0, (h.2 one).1, (h.2 one).2, (h.2 one).3),
-    λ two. (whole, (h.3 two).1),
-    λ three. (whole, (h.4 three).1, (h.4 three).2),
-    λ four. (whole, (h.5 four).1, (h.5 four).2, (h.5 four).3),
-  )
-  pair_kept dic first second (Schema f) h = schema dic.before (λ l s d. RefusesSchema l s d f) h
-  pair_kept dic first second (First f) h = three_kept k kinds is kept.before real.before x holds all dic.before first.before (λ l s d a. RefusesSheet l s d a f) h
-  pair_kept dic first second (Second f) h = four_kept k kinds is kept.before real.before x holds all dic.before first.before second.before (λ l s d a b. RefusesSecond l s d a b f) h
-  pair_kept dic first second (Write w) h = absurd h
 
 -- its status is above those of answers and refusals
 pub unread : (R T : ℕ → Type 0) (e : RunFault) → MatchFault e R T (λ _. ⊥) (λ _. ⊥) (λ _. ⊥) (λ _. ⊥) → 2 < status_of_fault e
@@ -135,8 +100,3 @@ ok_whatever (Err e) P h = tt
 pub err_anyway : {T E : Type 0} (r : Result T E) (P : E → Type 0) → ((e : E) → P e) → IfErr r P
 err_anyway (Ok v) P f = tt
 err_anyway (Err e) P f = f e
-
-pub run_anyway : {T : Type 0} (r : Result T VerifyRunFault) (G : Type 0) (Q : RunFault → Type 0) → G → IfErr r (λ e. MatchRun e (λ f. G ⊎ Q f) (λ _ _. G))
-run_anyway (Ok v) G Q h = tt
-run_anyway (Err (Run f)) G Q h = inl h
-run_anyway (Err (OfPairingFile at why)) G Q h = h

@@ -1,5 +1,5 @@
 -- The names of paths.
-use Rattle.std.proofs.Common.{◌≡◌, ℕ, zero, suc, ◌+◌, ◌-◌, ◌<◌, ◌≤◌, List, [], ◌∷◌, ◌++◌, length, map, take, get_or, refl, sym, subst, ◌∙◌, ap, arith, Bor, add-one}
+use Rattle.std.proofs.Common.{◌≡◌, ℕ, zero, suc, ◌-◌, ◌<◌, ◌≤◌, List, [], ◌∷◌, ◌++◌, length, map, take, get_or, refl, sym, subst, ◌∙◌, ap, arith, Bor}
 use Rattle.edi_outcome.specs.Words.{texts}
 use Rattle.edi_answers.specs.Paths.{input_name, names_from, names_of_paths, output_name}
 
@@ -23,19 +23,6 @@ split_names (path ∷ paths) d h =
 texts-append : (list : List (Bor (List ℕ))) (last : Bor (List ℕ)) → texts (list ++ last ∷ []) ≡ texts list ++ last.now ∷ []
 texts-append [] last = refl
 texts-append (text ∷ list) last = ap (λ l. text.now ∷ l) (texts-append list last)
-
-before : (paths : List (Bor (List ℕ))) (i : ℕ) (d : Bor (List ℕ)) → i < length paths
-    → input_names (take (suc i) paths) ≡ input_names (take i paths) ++ input_name (get_or paths i d).now ∷ []
-before [] i d h = absurd (omega (arith, h))
-before (path ∷ paths) zero d h = refl
-before (path ∷ paths) (suc i) d h = ap (λ l. input_name path.now ∷ l) (before paths i d (omega (arith, h)))
-
--- the names of the inputs so far, with that of one more
-pub one_more_name : (paths names : List (Bor (List ℕ))) (i : ℕ) (d name : Bor (List ℕ)) → i < length paths → texts names ≡ input_names (take i paths)
-    → name.now ≡ input_name (get_or paths i d).now → texts (names ++ name ∷ []) ≡ input_names (take (i + 1) paths)
-one_more_name paths names i d name h so_far is =
-    texts-append names name ∙ (ap (λ l. l ++ name.now ∷ []) so_far ∙ (ap (λ x. input_names (take i paths) ++ x ∷ []) is
-    ∙ sym (ap (λ n. input_names (take n paths)) (add-one i) ∙ before paths i d h)))
 
 all_names : (paths : List (Bor (List ℕ))) (i : ℕ) → length paths ≤ i → input_names (take i paths) ≡ input_names paths
 all_names [] zero h = refl

@@ -26,7 +26,7 @@ use Rattle.edi_answers.specs.Effects.{Effects, Inputs, Stream}
 use Rattle.edi_answers.specs.Reasons.{length_line_for, lines_for}
 use Rattle.edi_outcome.specs.declared.outcome.Outcome.{Outcome}
 use Rattle.edi_answers.specs.SheetRuns.{FileFault, MatchPairFault, OfFiles, OfPair, PairFileFault, StandardFault}
-use Rattle.edi_answers.specs.Statuses.{AnswersIn, AreFourTried, AreTried, IsAnsweredAs, IsCompareStatus, IsSaid, IsUnsaid, IsWarned, LacksMemory, MeansStatus, OnlyLacksMemory, Prints, SaysFault, SaysPairFault, SaysPairRefusal, SaysRefusal, Warns, WarnsWhy, pair_paths_of}
+use Rattle.edi_answers.specs.Statuses.{AnswersIn, AreFourTried, AreTried, IsAnsweredAs, IsCompareStatus, IsSaid, IsUnsaid, IsWarned, LacksMemory, MeansStatus, Prints, SaysFault, SaysPairFault, SaysPairRefusal, SaysRefusal, Warns, WarnsWhy, pair_paths_of}
 use Rattle.edi_answers.proofs.Answering.{appends_nothing}
 use Rattle.edi_answers.proofs.Made.{files_map, pair_map, parts_map, were_four}
 
@@ -320,15 +320,4 @@ said_of_warned why stream failed err form e paths s big (inr told) = record {
   unsaid = λ small four. absurd (omega (arith, big, small));
   fault = λ large four. absurd (omega (arith, told.0, four));
   memory = λ five. (appends_nothing stream, told.1);
-}
-
--- what was said of an answer or a refusal
-pub said_of_line : (why : Why) (out err : Stream) (form : AnswerForm) (o : Outcome) (paths : List (List ℕ)) (s : ℕ) → status_for o < 3 → IsAnsweredAs (status_for o) s
-    → (s < 3 → AnswersIn out err form paths o) → (s ≡ 4 → IsUnsaid out err) → (s ≡ 5 → OnlyLacksMemory out err) → IsSaid why out err form o paths s
-said_of_line why out err form o paths s small status answer unsaid memory = record {
-  status = status;
-  answer = answer;
-  unsaid = λ _ four. unsaid four;
-  fault = λ big four. absurd (omega (arith, big, small));
-  memory = memory;
 }

@@ -22,15 +22,10 @@ use std::alloc::{AllocError, Global};
 const REFUSED_STATUS: u8 = 2;
 
 // All that a sheet breaks, and the lines on it.
+#[derive(Drop)]
 struct AllTold {
     broken: Vec<BrokenRule>,
     text: Vec<u8>,
-}
-
-impl Drop for AllTold {
-    fn drop(self) {
-        let AllTold { broken: _, text: _ } = self;
-    }
 }
 
 /// Writes in a form a line for each rule that the first broken phase of a sheet breaks, with its place, or one that

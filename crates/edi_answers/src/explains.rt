@@ -44,59 +44,33 @@ use std::alloc::{AllocError, Global};
 const REFUSED_STATUS: u8 = 2;
 
 // What the three files of a sheet hold.
+#[derive(Drop)]
 struct SheetBytes {
     scd: Vec<u8>,
     dic: Vec<u8>,
     vec: Vec<u8>,
 }
 
-impl Drop for SheetBytes {
-    fn drop(self) {
-        let SheetBytes {
-            scd: _,
-            dic: _,
-            vec: _,
-        } = self;
-    }
-}
-
 // What is said of a sheet, in a form.
+#[derive(Drop)]
 struct Account {
     is_accepted: bool,
     text: Vec<u8>,
 }
 
-impl Drop for Account {
-    fn drop(self) {
-        let Account {
-            is_accepted: _,
-            text: _,
-        } = self;
-    }
-}
-
 // The parts of what is said of a sheet: the answer of a check, in a form, and the words that explain it.
+#[derive(Drop)]
 struct AccountParts {
     is_accepted: bool,
     answer: Vec<u8>,
     words: Vec<u8>,
 }
 
-impl Drop for AccountParts {
-    fn drop(self) {
-        let AccountParts {
-            is_accepted: _,
-            answer: _,
-            words: _,
-        } = self;
-    }
-}
-
 impl AccountParts {
     // Puts the parts together: the words in the form too.
     fn put_together(self, alloc: Global, form: AnswerForm) -> Result<Account, AllocError>
-        ensures { IfOk result (λ said. (said.is_accepted ≡ self.is_accepted)
-            × (said.text.items ≡ self.answer.items ++ words_in_form form self.words.items)
+        ensures { IfOk result (λ account. (account.is_accepted ≡ self.is_accepted)
+            × (account.text.items ≡ self.answer.items ++ words_in_form form self.words.items)
             × AreWordsReadIn form self.words.items (words_in_form form self.words.items)) }
     {
         let AccountParts {
@@ -128,8 +102,8 @@ pub fn explain<F: Folder, O: ByteOut, E: ByteOut>(
         (written O.ByteOut out.old out.new) (written E.ByteOut err.old err.new) kinds.now files.now form result }
 {
     let paths = [files.scd, files.dic, files.vec, "-"];
-    match said(alloc, folder, kinds, files, form) {
-        Ok(said) => put_said(&said, out, err),
+    match account_of(alloc, folder, kinds, files, form) {
+        Ok(account) => put_account(&account, out, err),
         Err(fault) => report::answer(
             alloc,
             folder,
@@ -143,30 +117,34 @@ pub fn explain<F: Folder, O: ByteOut, E: ByteOut>(
 }
 
 // Writes what is said, and gives the status.
-fn put_said<O: ByteOut, E: ByteOut>(said: &Account, out: &mut O, err: &mut E) -> u8
-    ensures status { (result ≡ 4) ⊎ MatchBool said.now.is_accepted (result ≡ 0) (result ≡ 2) }
+fn put_account<O: ByteOut, E: ByteOut>(account: &Account, out: &mut O, err: &mut E) -> u8
+    ensures status { (result ≡ 4) ⊎ MatchBool account.now.is_accepted (result ≡ 0) (result ≡ 2) }
     ensures answer { result < 3
-        → Appends (O.contents out.old) (O.contents out.new) said.now.text.items × (err.new ≡ err.old) }
+        → Appends (O.contents out.old) (O.contents out.new) account.now.text.items × (err.new ≡ err.old) }
     ensures unsaid { result ≡ 4 → IsUnsaid (written O.ByteOut out.old out.new) (written E.ByteOut err.old err.new) }
 {
-    if put_all(out, &said.text).is_err() {
+    if put_all(out, &account.text).is_err() {
         return report::unwritten(err);
     }
-    if said.is_accepted { 0 } else { REFUSED_STATUS }
+    if account.is_accepted {
+        0
+    } else {
+        REFUSED_STATUS
+    }
 }
 
 // What is said in a form of the sheet of three files. All are opened before the first is read.
-fn said<F: Folder>(
+fn account_of<F: Folder>(
     alloc: Global,
     folder: &F,
     kinds: &GivenKinds<'_>,
     files: &SheetFiles<'_>,
     form: AnswerForm,
 ) -> Result<Account, RunFault>
-    ensures ok { IfOk result (λ said. OfFiles (inputs F.Folder F.Reader.ByteIn folder.now) files.now
-        (λ s d v. MatchBool said.is_accepted
-        (TellsAccepted form kinds.now files.now s d v said.text.items) (TellsRefusal form kinds.now
-        files.now s d v said.text.items))) }
+    ensures ok { IfOk result (λ account. OfFiles (inputs F.Folder F.Reader.ByteIn folder.now) files.now
+        (λ s d v. MatchBool account.is_accepted
+        (TellsAccepted form kinds.now files.now s d v account.text.items) (TellsRefusal form kinds.now
+        files.now s d v account.text.items))) }
     ensures err { IfErr result (FileFault (inputs F.Folder F.Reader.ByteIn folder.now) kinds.now files.now (λ _. ⊥)) }
     ensures names { IfErr result (λ e. FaultHasNames e 4) }
     ensures unrefused { IfErr result (λ e. 2 < status_of_fault e) }
@@ -177,24 +155,24 @@ fn said<F: Folder>(
     let scd = read_input(alloc, &mut scd, 1)?;
     let dic = read_input(alloc, &mut dic, 2)?;
     let vec = read_input(alloc, &mut vec, 3)?;
-    match all_said(alloc, kinds, files, form, &SheetBytes { scd, dic, vec }) {
-        Ok(said) => Ok(said),
+    match account_of_bytes(alloc, kinds, files, form, &SheetBytes { scd, dic, vec }) {
+        Ok(account) => Ok(account),
         Err(error) => Err(RunFault::Memory(error)),
     }
 }
 
 // What is said in a form of a sheet that was read, with the lines behind that.
-fn all_said(
+fn account_of_bytes(
     alloc: Global,
     kinds: &GivenKinds<'_>,
     files: &SheetFiles<'_>,
     form: AnswerForm,
     bytes: &SheetBytes,
 ) -> Result<Account, AllocError>
-    ensures { IfOk result (λ said. MatchBool said.is_accepted (TellsAccepted form
-        kinds.now files.now bytes.now.scd.items bytes.now.dic.items bytes.now.vec.items said.text.items)
+    ensures { IfOk result (λ account. MatchBool account.is_accepted (TellsAccepted form
+        kinds.now files.now bytes.now.scd.items bytes.now.dic.items bytes.now.vec.items account.text.items)
         (TellsRefusal form kinds.now files.now bytes.now.scd.items bytes.now.dic.items bytes.now.vec.items
-        said.text.items)) }
+        account.text.items)) }
 {
     let mut parts = parts_of(alloc, kinds, files, form, bytes)?;
     let lines = lines_behind(alloc, kinds, files, bytes, parts.is_accepted)?;

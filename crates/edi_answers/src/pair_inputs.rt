@@ -25,13 +25,13 @@ pub struct LoadedPair {
     pub second: Pieces,
 }
 
-/// What was read of the file of classes, and the other three inputs, which are open.
+// What was read of the file of classes, and the other three inputs, which are open.
 #[derive(Drop)]
-pub struct PairInputs<R> {
-    pub classes: Vec<u8>,
-    pub dic: R,
-    pub first: R,
-    pub second: R,
+struct PairInputs<R> {
+    classes: Vec<u8>,
+    dic: R,
+    first: R,
+    second: R,
 }
 
 // Four inputs, which are open.
@@ -72,7 +72,8 @@ pub fn load_pair<F: Folder>(
         HasNoteOf (inputs F.Folder F.Reader.ByteIn folder.now) kinds.now files.now.scd.now (status_of_fault e)
         note.old.items note.new.items) }
 {
-    let pair = open_pair(alloc, folder, kinds, files, note)?;
+    let readers = open_files(folder, files)?;
+    let pair = with_classes(alloc, folder, kinds, files, readers, note)?;
     let bytes = read_pair(alloc, folder, files, pair)?;
     load(alloc, kinds, bytes)
 }
@@ -107,30 +108,6 @@ pub fn load_pair_and_file<F: Folder>(
     let file = read_at(alloc, folder, pairing, &mut file, 5)?;
     let loaded = load(alloc, kinds, bytes)?;
     Ok((loaded, file))
-}
-
-/// The inputs of four files, and the note on the kinds that no class has. All are opened before the first is read.
-pub fn open_pair<F: Folder>(
-    alloc: Global,
-    folder: &F,
-    kinds: &GivenKinds<'_>,
-    files: &PairFiles<'_>,
-    note: &mut Vec<u8>,
-) -> Result<PairInputs<F::Reader>, RunFault>
-    ensures opened { IfOk result (λ pair.
-        ArePairInputs (inputs F.Folder F.Reader.ByteIn folder.now) F.Reader.ByteIn files.now
-        pair.classes.items pair.dic pair.first pair.second) }
-    ensures err { IfErr result
-        (PairFileFault (inputs F.Folder F.Reader.ByteIn folder.now) kinds.now files.now (λ _. ⊥)) }
-    ensures names { IfErr result (λ e. FaultHasNames e 5) }
-    ensures noted { IfOk result (λ _. GivesNote (inputs F.Folder F.Reader.ByteIn folder.now) kinds.now files.now.scd.now
-        note.new.items) }
-    ensures unnoted { IfErr result (λ e.
-        HasNoteOf (inputs F.Folder F.Reader.ByteIn folder.now) kinds.now files.now.scd.now
-        (status_of_fault e) note.old.items note.new.items) }
-{
-    let readers = open_files(folder, files)?;
-    with_classes(alloc, folder, kinds, files, readers, note)
 }
 
 // Opens four files.

@@ -54,12 +54,12 @@ pub fn answer<F: Folder, O: ByteOut, E: ByteOut>(
         Outcome::Fault(fault) if status_of_fault(fault) > REFUSED_STATUS => {
             warned(alloc, folder, err, fault, paths)
         }
-        _ => said(alloc, out, err, form, outcome, paths),
+        _ => say(alloc, out, err, form, outcome, paths),
     }
 }
 
 // Writes the line of an answer or a refusal in a form.
-fn said<O: ByteOut, E: ByteOut>(
+fn say<O: ByteOut, E: ByteOut>(
     alloc: Global,
     out: &mut O,
     err: &mut E,

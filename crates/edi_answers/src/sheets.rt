@@ -13,8 +13,8 @@ ghost use Rattle.edi_answers.specs.Effects.{effects, inputs};
 ghost use Rattle.edi_answers.specs.SheetRuns.{FileFault, Gives, IsApart, IsDeviceOf, IsMissing, IsNoPairInput, IsPairInput, IsPairPut, IsPairReplaced, Meets, OfFiles, OfFive, OfPair, PairFileFault, PutPairFault, StandardFault, VerifyFileFault};
 
 use crate::classes::{Kept, read_classes};
-use crate::pair_inputs::{PairInputs, load_pair, load_pair_and_file, open_pair};
-use edi_compare::{RunFault, Verdict, run_bundle, run_check, run_compare};
+use crate::pair_inputs::{load_pair, load_pair_and_file};
+use edi_compare::{RunFault, Verdict, compare_from, run_bundle, run_check};
 use edi_files::{Folder, output};
 use edi_line::{ByteOut, FileBytes};
 use edi_pairing::{Compared, Verified, VerifyRunFault};
@@ -83,22 +83,11 @@ pub fn compare<F: Folder>(
         HasNoteOf (inputs F.Folder F.Reader.ByteIn folder.now) kinds.now files.now.scd.now (status_of_fault e)
         note.old.items note.new.items) }
 {
-    let pair = open_pair(alloc, folder, kinds, files, note)?;
-    let PairInputs {
-        classes,
-        mut dic,
-        mut first,
-        mut second,
-    } = pair;
-    let mut kept = Kept::new(&classes);
-    run_compare(
-        alloc,
-        kinds.kinds(),
-        &mut kept,
-        &mut dic,
-        &mut first,
-        &mut second,
-    )
+    let pair = load_pair(alloc, folder, kinds, files, note)?;
+    let first = FileBytes::InPieces(pair.first);
+    let second = FileBytes::InPieces(pair.second);
+    let verdict = compare_from(alloc, &pair.schema, first, second)?;
+    Ok(verdict)
 }
 
 /// Whether the two sheets of four files state the same plan, with the line at which their canonical files first differ,

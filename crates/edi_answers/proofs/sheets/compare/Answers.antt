@@ -1,27 +1,24 @@
-use Rattle.std.proofs.Common.{◌∙◌, Some, ap, inl, refl}
-use Rattle.std.proofs.lemmas.Result.{IfOk-weaker}
-use Rattle.edi_compare.specs.Runs.{IsVerdictOf}
-use Rattle.edi_answers.proofs.Kept.{err_anyway, ok_whatever}
-use Rattle.edi_answers.proofs.PairRuns.{fact_of_pair, fault_of_pair}
+use Rattle.edi_compare.specs.Faults.{of_pair}
+use Rattle.edi_compare.specs.Rules.{IsAccepted}
+use Rattle.edi_compare.specs.Verdicts.{IsVerdict}
+use Rattle.edi_compare.proofs.Refusals.{err_kept}
+use Rattle.edi_answers.specs.Effects.{inputs}
+use Rattle.edi_answers.specs.SheetRuns.{PairFileFault}
+use Rattle.edi_answers.proofs.LoadedPairs.{of_loaded, refused_pair}
 use Rattle.edi_answers.proofs.sheets.compare.Goals as goal
 
 pub returns-clause-ok : goal.returns-clause-ok
 returns-clause-ok g c =
     let pair = c.in_ok-pair.pair in
-    IfOk-weaker c.run_compare.result _ _
-    (fact_of_pair g.F.Folder g.F.Reader.ByteIn c.args.folder.now c.args.files.now c.kinds.result.now c.args.kinds.now c.kinds.ensures pair.classes.items pair.dic pair.first pair.second
-    c.in_ok-pair.ensures.opened _ (c.new-kept.ensures ∙ ap Some c.deref.ensures.value) (λ v l s d a b. IsVerdictOf l s d a b v))
-    c.run_compare.ensures.ok
+    let s = pair.schema in
+    let done = c.in_ok-verdict.ensures in
+    of_loaded (inputs g.F.Folder g.F.Reader.ByteIn c.args.folder.now) c.args.kinds.now c.args.files.now pair c.in_ok-pair.ensures.ok
+    (λ a b. IsAccepted s a × IsAccepted s b × IsVerdict s a b c.in_ok-verdict.verdict) _ (λ k d a b good u. (s, good, u.0, u.1, u.2))
+    (done.first, done.second, done.verdict)
 
-pub returns-clause-err : goal.returns-clause-err
-returns-clause-err g c =
-    let pair = c.in_ok-pair.pair in
-    let new = c.run_compare.new in
-    fault_of_pair g.F.Folder g.F.Reader.ByteIn c.args.folder.now c.args.files.now c.kinds.result.now c.args.kinds.now c.kinds.ensures pair.classes.items pair.dic pair.first pair.second
-    c.in_ok-pair.ensures.opened _ (c.new-kept.ensures ∙ ap Some c.deref.ensures.value) refl new.dic new.first new.second c.run_compare.result c.run_compare.ensures.err
-
-pub returns-clause-noted : goal.returns-clause-noted
-returns-clause-noted g c = ok_whatever c.run_compare.result _ c.in_ok-pair.ensures.noted
-
-pub returns-clause-unnoted : goal.returns-clause-unnoted
-returns-clause-unnoted g c = err_anyway c.run_compare.result _ (λ e. inl c.in_ok-pair.ensures.noted)
+pub returns-in_err-verdict-clause-err : goal.returns-in_err-verdict-clause-err
+returns-in_err-verdict-clause-err g c =
+    let inputs = inputs g.F.Folder g.F.Reader.ByteIn c.args.folder.now in
+    let f = c.in_err-verdict.field-0.0 in
+    err_kept _ (of_pair f) (PairFileFault inputs c.args.kinds.now c.args.files.now (λ _. ⊥)) c.from_residual-in_err-verdict.ensures.1
+    (refused_pair inputs c.args.kinds.now c.args.files.now c.in_ok-pair.pair c.in_ok-pair.ensures.ok f c.in_err-verdict.ensures.refusal)

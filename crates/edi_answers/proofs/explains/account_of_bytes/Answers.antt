@@ -3,7 +3,7 @@ use Rattle.std.proofs.lemmas.Result.{IfOk-weaker}
 use Rattle.std.specs.Bool.{MatchBool}
 use Rattle.edi_answers.specs.Explains.{TellsAccepted, TellsRefusal}
 use Rattle.edi_answers.proofs.Explaining.{all_reported, lines_hold}
-use Rattle.edi_answers.proofs.explains.all_said.Goals as goal
+use Rattle.edi_answers.proofs.explains.account_of_bytes.Goals as goal
 
 pub lines_behind-requires : goal.lines_behind-requires
 lines_behind-requires c =

@@ -5,7 +5,7 @@ use Rattle.edi_answers.specs.Effects.{inputs}
 use Rattle.edi_answers.specs.SheetRuns.{AreThere, FileFault}
 use Rattle.edi_answers.proofs.Explaining.{known_bytes}
 use Rattle.edi_answers.proofs.Faults.{failed_at, input_fault}
-use Rattle.edi_answers.proofs.explains.said.Goals as goal
+use Rattle.edi_answers.proofs.explains.account_of.Goals as goal
 
 pub returns-in-Ok-clause-ok : goal.returns-in-Ok-clause-ok
 returns-in-Ok-clause-ok g c =
