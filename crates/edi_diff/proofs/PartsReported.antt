@@ -1,25 +1,21 @@
 -- Parts that differ.
-use Rattle.std.proofs.Common.{◌≡◌, ◌↔◌, ℕ, ◌<◌, ◌+◌, [], ◌∷◌, ◌++◌, ◌⊎◌, inl, inr, ◌∙◌, Bool, false, true≢false, IsTrue, List, length, get_or, Option, Result, Ok, Err, IfOk, sym, ap, subst, arith}
+use Rattle.std.proofs.Common.{◌≡◌, ◌↔◌, ℕ, ◌<◌, ◌+◌, [], ◌∷◌, ◌++◌, ◌⊎◌, inl, inr, ◌∙◌, Bool, false, true, not, refl, true≢false, IsTrue, List, length, get_or, Option, Result, Ok, Err, IfOk, sym, ap, subst, arith}
 use Rattle.std.proofs.Math.Seq.{get_or-append_seam}
 use Rattle.std.proofs.lemmas.Bool.{cases_eq}
 use Rattle.std.proofs.lemmas.List.{get_or_append_left}
 use Rattle.std.specs.List.{AllByRecursion}
 use Rattle.std.specs.Prelude.{IsPermutation, map, option_map, slice_index}
-use Rattle.edi_plan.specs.Plans.{PlanData, IsPlace, first_of, record_at, rest_of}
-use Rattle.edi_plan.specs.Whole.{IsWholePlan}
-use Rattle.edi_plan.specs.declared.record.PlanEnd.{PlanEnd}
+use Rattle.edi_plan.specs.Plans.{PlanData, origin_of, others_of, record_at}
 use Rattle.edi_rank.specs.Same.{moved}
+use Rattle.edi_compare.specs.declared.uncarried.RecordPart.TheVariants.{Ends}
+use Rattle.edi_compare.specs.inner.Checking.{AgreeAt}
 use Rattle.edi_matching.specs.Matchings.{GoesTo, IsMatched, targets_of}
 use Rattle.edi_matching.specs.declared.matching.Matching.{Matching}
 use Rattle.edi_schema.specs.Classes.{Classes}
 use Rattle.edi_report.specs.Reports.{parts_at}
 use Rattle.edi_report.specs.declared.parts.Parts.{Parts}
 use Rattle.edi_diff.specs.Changes.{AreChangedParts, ArePartsOfEach, HasEndsOf}
-use Rattle.edi_diff.specs.inner.Comparisons.{Comparison, became}
-
--- the parts of the record at one place
-abbrev pub ArePartsAt : Comparison → ℕ → ℕ → Parts → Type 0
-ArePartsAt m i j parts = AreChangedParts m.classes (became m) i (record_at m.plan i) (record_at m.other j) parts
+use Rattle.edi_diff.specs.inner.Comparisons.{ArePartsAt, Comparison, became}
 
 -- the parts of the first n records
 abbrev pub ArePartsUpTo : Comparison → List Parts → ℕ → Type 0
@@ -44,44 +40,34 @@ parts_more m parts x n long reporter here i j less free goes = go (cases_eq i n)
         let before : i < n = omega (arith, less, ne) in
         subst (ArePartsAt m i j) (sym (get_or_append_left parts (x ∷ []) none_differ i (omega (arith, before, long)))) (reporter i j before free goes)
 
--- ---- ends
+-- ---- one record, by what its parts were found to be
 
--- the ends, renamed, are these others
-abbrev EndsGo : List ℕ → List PlanEnd → List PlanEnd → Type 0
-EndsGo to ends others = (first_of others ≡ option_map (moved (slice_index to)) (first_of ends)) × IsPermutation (map (moved (slice_index to)) (rest_of ends)) (rest_of others)
+pub differs_unless : (same : Bool) (P : Type 0) → (IsTrue same ↔ P) → (not same ≡ false) ↔ P
+differs_unless true P h = (λ e. h.0 refl, λ p. refl)
+differs_unless false P h = (λ e. absurd (true≢false e), λ p. absurd (true≢false (sym (h.1 p))))
 
-abbrev AllMatched : List (Option ℕ) → List PlanEnd → Type 0
-AllMatched to ends = AllByRecursion (λ e. IsMatched to e.target) ends
+pub ends_left : (m : Comparison) (i j : ℕ) (b : Bool) → b ≡ false → (IsTrue b ↔ AllByRecursion (λ e. IsMatched m.to e.target) (record_at m.carried.plan i).ends)
+    → IsTrue false ↔ HasEndsOf (became m) (record_at m.carried.plan i) (record_at m.carried.other j)
+ends_left m i j b none reporter = (λ t. absurd (true≢false (sym t)), λ h. absurd (true≢false (sym (reporter.1 h.all) ∙ none)))
 
-pub ends_known : {E : Type 0} (m : Comparison) (i j : ℕ) (ends others : List PlanEnd) → ends ≡ (record_at m.plan i).ends → others ≡ (record_at m.other j).ends
-    → AllMatched m.to ends → m.targets ≡ targets_of m.to → (r : Result Bool E) → IfOk r (λ answer. IsTrue answer ↔ EndsGo m.targets ends others)
-    → IfOk r (λ answer. IsTrue answer ↔ HasEndsOf (became m) (record_at m.plan i) (record_at m.other j))
-ends_known m i j ends others is_ends is_others all targeted (Err e) reporter = tt
-ends_known m i j ends others is_ends is_others all targeted (Ok answer) reporter = ((λ t. there (reporter.0 t)), (λ h. reporter.1 (back (h.origin, h.others))))
+pub ends_known : {E : Type 0} (m : Comparison) (i j : ℕ) → m.carried.to ≡ targets_of m.to → AllByRecursion (λ e. IsMatched m.to e.target) (record_at m.carried.plan i).ends
+    → (r : Result Bool E) → IfOk r (λ answer. IsTrue answer ↔ AgreeAt m.carried i j Ends)
+    → IfOk r (λ answer. IsTrue answer ↔ HasEndsOf (became m) (record_at m.carried.plan i) (record_at m.carried.other j))
+ends_known m i j targeted all (Err e) reporter = tt
+ends_known m i j targeted all (Ok answer) reporter = (λ t. there (reporter.0 t), λ h. reporter.1 (back (h.origin, h.others)))
   where
-    there : EndsGo m.targets ends others → HasEndsOf (became m) (record_at m.plan i) (record_at m.other j)
+    Moved : List ℕ → Type 0
+    Moved to =
+        (origin_of (record_at m.carried.other j) ≡ option_map (moved (slice_index to)) (origin_of (record_at m.carried.plan i)))
+        × IsPermutation (map (moved (slice_index to)) (others_of (record_at m.carried.plan i))) (others_of (record_at m.carried.other j))
+
+    there : Moved m.carried.to → HasEndsOf (became m) (record_at m.carried.plan i) (record_at m.carried.other j)
     there go =
-        let gone : EndsGo (targets_of m.to) (record_at m.plan i).ends (record_at m.other j).ends =
-        subst (λ (ts : List ℕ). EndsGo ts (record_at m.plan i).ends (record_at m.other j).ends) targeted
-        (subst (λ (es : List PlanEnd). EndsGo m.targets es (record_at m.other j).ends) is_ends (subst (λ (os : List PlanEnd). EndsGo m.targets ends os) is_others go)) in
-        record { all = subst (AllMatched m.to) is_ends all; origin = gone.0; others = gone.1 }
+        let gone = subst Moved targeted go in
+        record { all = all; origin = gone.0; others = gone.1 }
 
-    back : EndsGo (targets_of m.to) (record_at m.plan i).ends (record_at m.other j).ends → EndsGo m.targets ends others
-    back gone =
-        subst (λ (os : List PlanEnd). EndsGo m.targets ends os) (sym is_others)
-        (subst (λ (es : List PlanEnd). EndsGo m.targets es (record_at m.other j).ends) (sym is_ends)
-        (subst (λ (ts : List ℕ). EndsGo ts (record_at m.plan i).ends (record_at m.other j).ends) (sym targeted) gone))
-
-pub ends_left : (m : Comparison) (i j : ℕ) (ends : List PlanEnd) → ends ≡ (record_at m.plan i).ends → (b : Bool) → b ≡ false → (IsTrue b ↔ AllMatched m.to ends)
-    → IsTrue false ↔ HasEndsOf (became m) (record_at m.plan i) (record_at m.other j)
-ends_left m i j ends is_ends b none reporter =
-    ((λ t. absurd (true≢false (sym t))), (λ h. absurd (true≢false (sym (reporter.1 (subst (AllMatched m.to) (sym is_ends) h.all)) ∙ none))))
-
-pub targets_there : (p : PlanData) (targets : List ℕ) (i : ℕ) (ends : List PlanEnd) → IsWholePlan p → IsPlace p i → ends ≡ (record_at p i).ends → length targets ≡ length p.list
-    → AllByRecursion (λ e. e.target < length targets) ends
-targets_there p targets i ends whole here is_ends long =
-    subst (λ (n : ℕ). AllByRecursion (λ e. e.target < n) ends) (sym long)
-    (subst (λ (es : List PlanEnd). AllByRecursion (λ e. e.target < length p.list) es) (sym is_ends) (whole.there i here))
+    back : Moved (targets_of m.to) → Moved m.carried.to
+    back gone = subst Moved (sym targeted) gone
 
 -- ---- all records
 

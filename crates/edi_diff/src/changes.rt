@@ -50,7 +50,7 @@ pub(crate) fn changes_between(
     requires { (s : Classes) × MatchingHolds s plan.now other.now unchanged.now }
     ensures { IfOk result (λ c. AreSteps plan.now other.now unchanged.now c.to.items c.turned.items c.reached.items) }
 {
-    let mut changes = unchanged_alone(alloc, other, unchanged)?;
+    let mut changes = changes_of_matching(alloc, other, unchanged)?;
     for way in WAYS {
         changes.grow(alloc, plan, other, way)?;
     }
@@ -77,7 +77,11 @@ const WAYS: [Way; 6] = [
 ];
 
 /// The matched records.
-fn unchanged_alone(alloc: Global, other: &Plan, unchanged: &Matching) -> Result<Changes, AllocError>
+fn changes_of_matching(
+    alloc: Global,
+    other: &Plan,
+    unchanged: &Matching,
+) -> Result<Changes, AllocError>
     ensures to { IfOk result (λ c. c.to.items ≡ unchanged.now.to) }
     ensures turned { IfOk result (λ c. c.turned.items ≡ unchanged.now.turned) }
     ensures reached { IfOk result (λ c. AreMarks unchanged.now.to (length other.now.list) c.reached.items) }

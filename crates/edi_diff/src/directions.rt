@@ -26,13 +26,18 @@ pub(crate) fn runs_backwards(points: &[Point], others: &[Point]) -> bool
 fn shared_ends(points: &[Point], others: &[Point], backwards: bool) -> u128
     ensures { SharesEnds points.now (directed backwards others.now) result }
 {
-    let first = shared(points, false, others, backwards);
-    let last = shared(points, true, others, !backwards);
+    let first = count_shared(points, false, others, backwards);
+    let last = count_shared(points, true, others, !backwards);
     first as u128 + last as u128
 }
 
 /// How many first points two lists share, each as it is or backwards.
-fn shared(points: &[Point], backwards: bool, others: &[Point], others_backwards: bool) -> usize
+fn count_shared(
+    points: &[Point],
+    backwards: bool,
+    others: &[Point],
+    others_backwards: bool,
+) -> usize
     ensures { SharesFirst (directed backwards points.now) (directed others_backwards others.now) result }
 {
     let most = points.len().min(others.len());

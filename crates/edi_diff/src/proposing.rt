@@ -70,7 +70,7 @@ impl<'a> Open<'a> {
     pub(crate) fn by_joined(&self, alloc: Global) -> Result<Vec<Proposal>, AllocError>
         ensures { IfOk result (λ found. AreByJoints (progress_of self.now) found.items) }
     {
-        let joined = self.joined(alloc)?;
+        let joined = self.joints(alloc)?;
         let codes = self.codes(alloc)?;
         let mut pairs = Vec::new(alloc);
         for code in &codes {
@@ -182,7 +182,7 @@ impl<'a> Open<'a> {
     }
 
     /// What links join open records with, in the order of these records.
-    fn joined(&self, alloc: Global) -> Result<Vec<Joined>, AllocError>
+    fn joints(&self, alloc: Global) -> Result<Vec<Joined>, AllocError>
         ensures { IfOk result (λ joined. AreJoints (progress_of self.now) joined.items) }
     {
         let mut joined = Vec::new(alloc);

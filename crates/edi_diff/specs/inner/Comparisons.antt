@@ -1,31 +1,30 @@
 -- Two plans that are compared record by record.
-use Rattle.std.specs.Prelude.{◌≡◌, ℕ, Bool, List, Option, length}
-use Rattle.edi_schema.specs.Classes.{Classes}
-use Rattle.edi_plan.specs.Plans.{PlanData, IsPlace}
-use Rattle.edi_plan.specs.Agreeing.{HasClasses}
+use Rattle.std.specs.Prelude.{◌≡◌, ℕ, List, Option, length}
+use Rattle.edi_plan.specs.Plans.{IsPlace, record_at}
+use Rattle.edi_compare.specs.inner.Checking.{Matching as Carried}
 use Rattle.edi_matching.specs.Matchings.{GoesTo, targets_of}
 use Rattle.edi_matching.specs.declared.matching.Matching.{Matching}
+use Rattle.edi_report.specs.declared.parts.Parts.{Parts}
+use Rattle.edi_diff.specs.Changes.{AreChangedParts}
 
--- two plans, what is unchanged of the first and what became of it, with the targets of that
+-- two plans with the places where the records of the first are carried, what is unchanged of it and what became of it
 pub record Comparison : Type 0 where
-  pub classes : Classes
-  pub plan : PlanData
-  pub other : PlanData
+  pub carried : Carried
   pub unchanged : List (Option ℕ)
   pub to : List (Option ℕ)
-  pub targets : List ℕ
-  pub turned : List Bool
 
 -- what became of the first plan
 abbrev pub became : Comparison → Matching
-became m = record { to = m.to; turned = m.turned }
+became m = record { to = m.to; turned = m.carried.turned }
 
--- there is an entry for each record, and each target is a record
+-- each record has an entry, goes where it is carried, and to a record
 pub record IsComparable (m : Comparison) : Type 0 where
-  pub classed : HasClasses m.classes m.plan
-  pub all_unchanged : length m.unchanged ≡ length m.plan.list
-  pub all_entered : length m.to ≡ length m.plan.list
-  pub all_directed : length m.turned ≡ length m.plan.list
-  pub all_targeted : length m.targets ≡ length m.plan.list
-  pub targeted : m.targets ≡ targets_of m.to
-  pub within : (i j : ℕ) → GoesTo m.to i j → IsPlace m.other j
+  pub all_unchanged : length m.unchanged ≡ length m.carried.plan.list
+  pub all_entered : length m.to ≡ length m.carried.plan.list
+  pub targeted : m.carried.to ≡ targets_of m.to
+  pub within : (i j : ℕ) → GoesTo m.to i j → IsPlace m.carried.other j
+
+-- the parts in which the record at the place i and that at the place j of the other plan differ
+abbrev pub ArePartsAt : Comparison → ℕ → ℕ → Parts → Type 0
+ArePartsAt m i j =
+    AreChangedParts m.carried.classes (became m) i (record_at m.carried.plan i) (record_at m.carried.other j)

@@ -1,6 +1,7 @@
 use Rattle.std.proofs.Common.{◌≡◌, ◌+◌, [], ◌∷◌, ◌++◌, List, ap, arith, length, length-append, subst, sym}
 use Rattle.edi_matching.proofs.Totals.{goes_within}
 use Rattle.edi_report.specs.declared.parts.Parts.{Parts}
+use Rattle.edi_diff.specs.declared.parting.PlanComparison.TheInside.{Inside}
 use Rattle.edi_diff.proofs.PartsReported.{ArePartsUpTo, parts_more}
 use Rattle.edi_diff.proofs.parting.PlanComparison.all_parts.Goals as goal
 
@@ -19,4 +20,4 @@ pub returns : goal.returns
 returns c = λ i j free goes.
     let within = goes_within c.args.self.now.to i j goes in
     let entered = c.self.invariant.all_entered in
-    c.loop-place.invariant.1 i j (omega (arith, within, ap length (ap (λ m. m.to) c.self.view_is), entered, c.len-place-end.ensures, c.loop-place-test.false)) free goes
+    c.loop-place.invariant.1 i j (omega (arith, within, ap length (ap (λ m. m.to) c.self.view_is), entered, ap (λ (x : Inside). length x.carrier.plan.list) c.self-inside.view_is, c.len-place-end.ensures, c.loop-place-test.false)) free goes

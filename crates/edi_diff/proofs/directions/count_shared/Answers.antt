@@ -2,7 +2,7 @@ use Rattle.std.proofs.Common.{◌∙◌, arith, sym}
 use Rattle.edi_rank.specs.Same.{directed}
 use Rattle.edi_topo.proofs.FirstDifference.{differs, tied}
 use Rattle.edi_diff.proofs.SharedPoints.{apart, length-directed, one_more}
-use Rattle.edi_diff.proofs.directions.shared.Goals as goal
+use Rattle.edi_diff.proofs.directions.count_shared.Goals as goal
 
 pub returns-then-is_ne : goal.returns-then-is_ne
 returns-then-is_ne c =

@@ -2,7 +2,7 @@ use Rattle.std.proofs.Common.{ℕ, ◌≡◌, ◌++◌, false, flat_map, take, t
 use Rattle.edi_diff.specs.inner.Codes.{code_at}
 use Rattle.edi_diff.specs.inner.Joints.{joints_of}
 use Rattle.edi_diff.specs.inner.Progress.{progress_of}
-use Rattle.edi_diff.proofs.proposing.Open.joined.Given as goal
+use Rattle.edi_diff.proofs.proposing.Open.joints.Given as goal
 
 abbrev pub invariant-loop-place : goal.invariant-loop-place
 invariant-loop-place l =
