@@ -2,7 +2,7 @@
 use Rattle.std.proofs.Common.{◌≡◌, ℕ, ◌+◌, ◌<◌, ◌||◌, Bool, true, false, List, [], ◌∷◌, ◌++◌, length, get_or, map, take, Option, None, refl, sym, ap, ◌∙◌, subst, arith, if◌then◌else◌}
 use Rattle.std.proofs.lemmas.List.{ext_get_or, take_more}
 use Rattle.std.proofs.lemmas.List.Folds.{list_any-append}
-use Rattle.std.proofs.lemmas.List.FromFn.{get_or-map-range_with_len, length-map-range_with_len, map-range_with_len_more}
+use Rattle.std.proofs.lemmas.List.FromFn.{get_or-map-range_with_len, length-map-range_with_len}
 use Rattle.std.specs.List.{list_any, range_with_len}
 use Rattle.edi_matching.specs.declared.matching.Matching.{Matching}
 use Rattle.edi_report.specs.Lines.{is_reached, went_to}
@@ -26,11 +26,6 @@ stamped_more to k old marks new went m less is long done each j h =
     ∙ (sym (or_none (is_reached (take k to) j) (went_to j went) m (get_or old j Hidden))
     ∙ ap (λ b. if b then m else get_or old j Hidden)
     (sym (list_any-append (went_to j) (take k to) (went ∷ [])) ∙ ap (list_any (went_to j)) (ap (λ v. take k to ++ v ∷ []) is ∙ sym (take_more to k None less)))))
-
--- one mark more
-pub one_more : (f : ℕ → Mark) (n : ℕ) (old new : List Mark) (m : Mark) → old ≡ map f (range_with_len 0 n) → m ≡ f n → new ≡ old ++ m ∷ [] → new ≡ map f (range_with_len 0 (n + 1))
-one_more f n old new m done is pushed =
-    pushed ∙ (ap (λ xs. xs ++ m ∷ []) done ∙ (ap (λ x. map f (range_with_len 0 n) ++ x ∷ []) is ∙ sym (map-range_with_len_more f 0 n n (omega arith))))
 
 pub second_marked : (unchanged became : Matching) (n : ℕ) (start mid marks : List Mark) → start ≡ map (λ k. OnlySecond) (range_with_len 0 n) → length mid ≡ length start → length marks ≡ length mid
     → ((j : ℕ) → j < length start → get_or mid j Hidden ≡ (if is_reached became.to j then After else get_or start j Hidden))

@@ -1,17 +1,14 @@
 -- Which records are touched.
-use Rattle.std.proofs.Common.{◌≡◌, ℕ, ◌+◌, ◌<◌, ◌≤◌, Bool, true, false, ◌&&◌, ◌||◌, List, [], ◌∷◌, ◌++◌, length, get_or, map, take, refl, sym, ap, ◌∙◌, subst, arith, nat_lt}
+use Rattle.std.proofs.Common.{◌≡◌, ℕ, ◌+◌, ◌<◌, Bool, true, false, ◌&&◌, ◌||◌, List, [], ◌∷◌, ◌++◌, length, get_or, map, take, refl, sym, ap, ◌∙◌, subst, arith}
 use Rattle.std.specs.List.{list_any, range_with_len}
 use Rattle.std.proofs.Math.Bool.{or-false}
-use Rattle.std.proofs.lemmas.Bool.{cases_lt}
-use Rattle.std.proofs.lemmas.List.{get_or_past, take_more}
+use Rattle.std.proofs.lemmas.List.{take_more}
 use Rattle.std.proofs.lemmas.List.Folds.{list_any-append}
-use Rattle.std.proofs.lemmas.List.FromFn.{get_or-map-range_with_len, length-map-range_with_len, map-range_with_len_more}
-use Rattle.edi_record.specs.declared.record.Kind.TheVariants.{Lnk}
-use Rattle.edi_plan.specs.Places.{places_of}
+use Rattle.std.proofs.lemmas.List.FromFn.{get_or-map-range_with_len, length-map-range_with_len}
 use Rattle.edi_plan.specs.Plans.{PlanData}
 use Rattle.edi_picture.specs.declared.mark.Mark.{Mark}
-use Rattle.edi_drawing.specs.Tints.{is_touched, touches}
-use Rattle.edi_drawing.specs.inner.Tints.{AreTouched, HaveTouched}
+use Rattle.edi_drawing.specs.Tints.{touches}
+use Rattle.edi_drawing.specs.inner.Tints.{HaveTouched}
 
 -- one link more
 pub more_touched : (marks : List Mark) (p : PlanData) (links : List ℕ) (i link : ℕ) (old new : List Bool) → i < length links → link ≡ get_or links i 0
@@ -28,12 +25,6 @@ more_touched marks p links i link old new less is have long each = record {
       ∙ (sym (list_any-append (touches marks p k) (take i links) (link ∷ []))
       ∙ ap (list_any (touches marks p k)) (ap (λ (x : ℕ). take i links ++ x ∷ []) is ∙ sym (take_more links i 0 less)))));
 }
-
--- one value more of each place
-pub one_value_more : {X : Type 0} (f : ℕ → X) (n : ℕ) (old new : List X) (x : X) → old ≡ map f (range_with_len 0 n) → x ≡ f n → new ≡ old ++ x ∷ []
-    → new ≡ map f (range_with_len 0 (n + 1))
-one_value_more {X} f n old new x done is pushed =
-    pushed ∙ (ap (λ (xs : List X). xs ++ x ∷ []) done ∙ (ap (λ (y : X). map f (range_with_len 0 n) ++ y ∷ []) is ∙ sym (map-range_with_len_more f 0 n n (omega arith))))
 
 -- one value of each place
 pub value_at : {X : Type 0} (f : ℕ → X) (n k : ℕ) (d : X) (xs : List X) → xs ≡ map f (range_with_len 0 n) → k < n → get_or xs k d ≡ f k

@@ -163,24 +163,12 @@ fn call_all(callers: &mut Vec<Option<u32>>, schema: &Schema, plan: &Plan, link: 
     }
 }
 
-/// For so many records no link.
-fn no_callers(alloc: Global, count: u32) -> Result<Vec<Option<u32>>, AllocError>
-    ensures length { IfOk result (λ callers. length callers.items ≡ count) }
-    ensures each { IfOk result (λ callers. (k : ℕ) → slice_index_or callers.items k None ≡ None) }
-{
-    let mut callers = Vec::new(alloc);
-    for _ in 0..count {
-        callers.push(None)?;
-    }
-    Ok(callers)
-}
-
 /// For each record the first link that calls it something.
 fn callers_of(alloc: Global, schema: &Schema, plan: &Plan) -> Result<Vec<Option<u32>>, AllocError>
     requires { Agrees schema.now plan.now }
     ensures { IfOk result (λ callers. AreCallers schema.now plan.now callers.items) }
 {
-    let mut callers = no_callers(alloc, plan.len())?;
+    let mut callers = vec![in alloc; None; plan.len() as usize]?;
     for link in plan.places(Kind::Lnk) {
         call_all(&mut callers, schema, plan, *link);
     }
@@ -199,15 +187,6 @@ fn label_of<'a>(schema: &Schema, plan: &'a Plan, callers: &[Option<u32>], place:
     }
 }
 
-/// A copy of some bytes.
-fn copied(alloc: Global, bytes: &[u8]) -> Result<Vec<u8>, AllocError>
-    ensures { IfOk result (λ copy. copy.items ≡ bytes.now) }
-{
-    let mut copy = Vec::new(alloc);
-    copy.extend_from_slice(bytes)?;
-    Ok(copy)
-}
-
 /// What the records of a sheet are called, in file order.
 pub(crate) fn labels_of(
     alloc: Global,
@@ -221,7 +200,7 @@ pub(crate) fn labels_of(
     let callers = callers_of(alloc, schema, plan)?;
     let mut labels = Vec::new(alloc);
     for place in 0..plan.len() {
-        labels.push(copied(alloc, label_of(schema, plan, &callers, place))?)?;
+        labels.push(Vec::from_slice(alloc, label_of(schema, plan, &callers, place))?)?;
     }
     Ok(labels)
 }
@@ -230,7 +209,7 @@ pub(crate) fn labels_of(
 fn both_labels(alloc: Global, here: &[u8], there: &[u8]) -> Result<Vec<u8>, AllocError>
     ensures { IfOk result (λ label. label.items ≡ both_labels here.now there.now) }
 {
-    let mut label = copied(alloc, here)?;
+    let mut label = Vec::from_slice(alloc, here)?;
     if here == there || there.is_empty() {
         return Ok(label);
     }

@@ -9,6 +9,7 @@ ghost use Rattle.edi_picture.specs.declared.mark.Mark.TheVariants.{Hidden};
 use crate::pair::entry_at;
 use edi_matching::Matching;
 use edi_picture::Mark;
+use edi_report::values_of_places;
 use std::alloc::{AllocError, Global};
 
 /// The mark of a record of the first sheet, by the one of the second that it is, and the one that it is or became.
@@ -43,22 +44,22 @@ pub(crate) fn first_marks(
 ) -> Result<Vec<Mark>, AllocError>
     ensures { IfOk result (λ marks. marks.items ≡ map (first_mark unchanged.now became.now) (range_with_len 0 count)) }
 {
-    let mut marks = Vec::new(alloc);
-    for place in 0..count {
-        marks.push(first_mark_at(unchanged, became, place))?;
-    }
-    Ok(marks)
+    values_of_places(
+        alloc,
+        count,
+        |place| first_mark_at(unchanged, became, place),
+    )
 }
 
-/// One mark for each of so many records.
-pub(crate) fn one_mark_each(alloc: Global, mark: Mark, count: u32) -> Result<Vec<Mark>, AllocError>
-    ensures { IfOk result (λ marks. marks.items ≡ map (λ k. mark) (range_with_len 0 count)) }
+/// One value for each of so many records.
+pub(crate) fn one_for_each<T: Copy + Drop>(
+    alloc: Global,
+    value: T,
+    count: u32,
+) -> Result<Vec<T>, AllocError>
+    ensures { IfOk result (λ values. values.items ≡ map (λ k. value) (range_with_len 0 count)) }
 {
-    let mut marks = Vec::new(alloc);
-    for _ in 0..count {
-        marks.push(mark)?;
-    }
-    Ok(marks)
+    values_of_places(alloc, count, |_| value)
 }
 
 /// Gives this mark to the record that one went to, if there is one.
@@ -94,7 +95,7 @@ pub(crate) fn second_marks(
 ) -> Result<Vec<Mark>, AllocError>
     ensures { IfOk result (λ marks. marks.items ≡ map (second_mark unchanged.now became.now) (range_with_len 0 count)) }
 {
-    let mut marks = one_mark_each(alloc, Mark::OnlySecond, count)?;
+    let mut marks = one_for_each(alloc, Mark::OnlySecond, count)?;
     stamp_all(&mut marks, became.to.as_slice(), Mark::After);
     stamp_all(&mut marks, unchanged.to.as_slice(), Mark::Hidden);
     Ok(marks)

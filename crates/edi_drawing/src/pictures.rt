@@ -7,10 +7,10 @@ ghost use Rattle.edi_drawing.specs.Drawn.{both_sheets, first_sheet, plain_sheet,
 
 use crate::identifiers::identifiers_of;
 use crate::labels::{first_labels, labels_of};
-use crate::marks::{first_marks, one_mark_each, second_marks};
+use crate::marks::{first_marks, one_for_each, second_marks};
 use crate::names::FileNames;
 use crate::pair::SheetPair;
-use crate::tints::{all_tinted, first_tints};
+use crate::tints::first_tints;
 use edi_picture::{Looks, Mark, Shown, picture};
 use edi_report::LocatedSheet;
 use edi_schema::Schema;
@@ -31,7 +31,7 @@ pub(crate) fn picture_of(
     let plan = sheet.accepted.sound().plan();
     let identifiers = identifiers_of(alloc, sheet)?;
     let looks = Looks {
-        marks: one_mark_each(alloc, Mark::Plain, plan.len())?,
+        marks: one_for_each(alloc, Mark::Plain, plan.len())?,
         tints: Vec::new(alloc),
         labels: labels_of(alloc, schema, plan)?,
     };
@@ -80,7 +80,7 @@ fn second_shown<'a>(
     let identifiers = identifiers_of(alloc, pair.second)?;
     let looks = Looks {
         marks: second_marks(alloc, pair.unchanged, pair.became, other.len())?,
-        tints: all_tinted(alloc, other.len())?,
+        tints: one_for_each(alloc, true, other.len())?,
         labels: labels_of(alloc, schema, other)?,
     };
     Ok(Shown::new(other, name.as_bytes(), identifiers, looks))

@@ -1,7 +1,7 @@
 //! Which records are tinted where two sheets are drawn.
 
-ghost use Rattle.std.specs.Prelude.{◌≡◌, ◌<◌, ◌||◌, ◌==◌, IfOk, ℕ, false, length, map, slice_index_or, true};
-ghost use Rattle.std.specs.List.{list_any, range_with_len};
+ghost use Rattle.std.specs.Prelude.{◌≡◌, ◌<◌, ◌||◌, ◌==◌, IfOk, ℕ, false, length, slice_index_or};
+ghost use Rattle.std.specs.List.{list_any};
 ghost use Rattle.edi_plan.specs.Plans.{IsPlace};
 ghost use Rattle.edi_drawing.specs.Marked.{first_marks, of_each, twin_of, second_marks};
 ghost use Rattle.edi_drawing.specs.Tints.{first_tint, is_out, links_out, stands_out, tint_by, touches};
@@ -89,23 +89,11 @@ fn touch_by(touched: &mut Vec<bool>, marks: &[Mark], plan: &Plan, link: u32)
     }
 }
 
-/// So many records, none of which is marked.
-fn untouched(alloc: Global, count: u32) -> Result<Vec<bool>, AllocError>
-    ensures length { IfOk result (λ touched. length touched.items ≡ count) }
-    ensures each { IfOk result (λ touched. (k : ℕ) → slice_index_or touched.items k false ≡ false) }
-{
-    let mut touched = Vec::new(alloc);
-    for _ in 0..count {
-        touched.push(false)?;
-    }
-    Ok(touched)
-}
-
 /// Which records are touched.
 fn touched_records(alloc: Global, marks: &[Mark], plan: &Plan) -> Result<Vec<bool>, AllocError>
     ensures { IfOk result (λ touched. AreTouched marks.now plan.now touched.items) }
 {
-    let mut touched = untouched(alloc, plan.len())?;
+    let mut touched = vec![in alloc; false; plan.len() as usize]?;
     for link in plan.places(Kind::Lnk) {
         touch_by(&mut touched, marks, plan, *link);
     }
@@ -172,17 +160,6 @@ pub(crate) fn first_tints(
     let mut tints = Vec::new(alloc);
     for place in 0..pair.plan().len() {
         tints.push(is_tinted(pair, marks[place as usize], &touched, place))?;
-    }
-    Ok(tints)
-}
-
-/// So many records, all of which are tinted.
-pub(crate) fn all_tinted(alloc: Global, count: u32) -> Result<Vec<bool>, AllocError>
-    ensures { IfOk result (λ tints. tints.items ≡ map (λ j. true) (range_with_len 0 count)) }
-{
-    let mut tints = Vec::new(alloc);
-    for _ in 0..count {
-        tints.push(true)?;
     }
     Ok(tints)
 }

@@ -1,8 +1,6 @@
 -- Which records are touched, while that is found.
 use Rattle.std.specs.Prelude.{◌≡◌, ◌<◌, ℕ, Bool, false, List, length, slice_index_or}
 use Rattle.std.specs.List.{list_any}
-use Rattle.edi_record.specs.declared.record.Kind.TheVariants.{Lnk}
-use Rattle.edi_plan.specs.Places.{places_of}
 use Rattle.edi_plan.specs.Plans.{PlanData}
 use Rattle.edi_picture.specs.declared.mark.Mark.{Mark}
 use Rattle.edi_drawing.specs.Tints.{is_touched, touches}

@@ -1,10 +1,11 @@
-use Rattle.std.proofs.Common.{◌<◌, ◌∙◌, ◌++◌, ◌∷◌, [], ℕ, List, false, ap, length, map, subst, sym}
+use Rattle.std.proofs.Common.{◌<◌, ◌∙◌, ◌∷◌, [], ℕ, false, ap, length, map, subst, sym}
 use Rattle.std.proofs.lemmas.List.{map-append}
 use Rattle.std.specs.Global.{Vec}
 use Rattle.edi_plan.specs.Plans.{PlanData}
 use Rattle.edi_drawing.specs.Drawn.{first_label}
 use Rattle.edi_drawing.specs.Tints.{first_tint}
-use Rattle.edi_drawing.proofs.Touched.{one_value_more, value_at, values_long}
+use Rattle.edi_report.proofs.EachPlace.{one_value_more}
+use Rattle.edi_drawing.proofs.Touched.{value_at, values_long}
 use Rattle.edi_drawing.proofs.labels.first_labels.Goals as goal
 
 pub bounds-tints-place : goal.bounds-tints-place

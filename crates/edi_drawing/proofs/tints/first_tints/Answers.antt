@@ -3,7 +3,8 @@ use Rattle.edi_plan.specs.Plans.{PlanData}
 use Rattle.edi_picture.specs.declared.mark.Mark.TheVariants.{Plain, Hidden}
 use Rattle.edi_drawing.specs.Marked.{first_mark, first_marks}
 use Rattle.edi_drawing.specs.Tints.{first_tint}
-use Rattle.edi_drawing.proofs.Touched.{one_value_more, value_at, values_long}
+use Rattle.edi_report.proofs.EachPlace.{one_value_more}
+use Rattle.edi_drawing.proofs.Touched.{value_at, values_long}
 use Rattle.edi_drawing.proofs.tints.first_tints.Goals as goal
 
 pub bounds-marks-place : goal.bounds-marks-place
