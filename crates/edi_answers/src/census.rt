@@ -165,7 +165,7 @@ fn all_told<F: Folder>(
         × (rules.new.items ≡ rules.old.items)) }
 {
     let mut sheet = opened(folder, path, 3)?;
-    let bytes: Vec<u8> = read_input(alloc, &mut sheet, 3)?;
+    let bytes = read_input(alloc, &mut sheet, 3)?;
     match told_of(alloc, schema, form, &bytes, path, rules) {
         Ok(told) => Ok(told),
         Err(error) => Err(RunFault::Memory(error)),

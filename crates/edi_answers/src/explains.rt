@@ -152,9 +152,9 @@ fn account_of<F: Folder>(
     let mut scd = opened(folder, files.scd, 1)?;
     let mut dic = opened(folder, files.dic, 2)?;
     let mut vec = opened(folder, files.vec, 3)?;
-    let scd: Vec<u8> = read_input(alloc, &mut scd, 1)?;
-    let dic: Vec<u8> = read_input(alloc, &mut dic, 2)?;
-    let vec: Vec<u8> = read_input(alloc, &mut vec, 3)?;
+    let scd = read_input(alloc, &mut scd, 1)?;
+    let dic = read_input(alloc, &mut dic, 2)?;
+    let vec = read_input(alloc, &mut vec, 3)?;
     match account_of_bytes(alloc, kinds, files, form, &SheetBytes { scd, dic, vec }) {
         Ok(account) => Ok(account),
         Err(error) => Err(RunFault::Memory(error)),

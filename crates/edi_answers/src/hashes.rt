@@ -105,8 +105,8 @@ pub fn loaded<F: Folder>(
 {
     let mut scd = opened(folder, files.scd, 1)?;
     let mut dic = opened(folder, files.dic, 2)?;
-    let scd: Vec<u8> = read_input(alloc, &mut scd, 1)?;
-    let dic: Vec<u8> = read_input(alloc, &mut dic, 2)?;
+    let scd = read_input(alloc, &mut scd, 1)?;
+    let dic = read_input(alloc, &mut dic, 2)?;
     match noted_schema(alloc, kinds, files, &scd, &dic) {
         Ok(noted) => Ok(noted),
         Err(fault) => Err(fault),

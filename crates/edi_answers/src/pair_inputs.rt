@@ -10,7 +10,7 @@ ghost use Rattle.edi_answers.specs.PairInputs.{ArePairBytes, ArePairInputs, AreP
 
 use crate::classes::read_classes;
 use crate::sheets::opened;
-use edi_compare::{RunFault, load_or_fault, read_input};
+use edi_compare::{RunFault, load_or_fault, read_input, read_input_pieces};
 use edi_files::Folder;
 use edi_line::Pieces;
 use edi_schema::Schema;
@@ -242,5 +242,5 @@ fn read_pieces_at<F: Folder>(
     ensures read { IfOk result (IsReadAt (inputs F.Folder F.Reader.ByteIn folder.now) path.now) }
     ensures err { IfErr result (IsUnreadAt (inputs F.Folder F.Reader.ByteIn folder.now) path.now input) }
 {
-    read_input(alloc, reader, input)
+    read_input_pieces(alloc, reader, input)
 }

@@ -3,9 +3,9 @@ use Rattle.edi_answers.proofs.pair_inputs.read_pieces_at.Goals as goal
 
 pub returns-clause-read : goal.returns-clause-read
 returns-clause-read g c =
-    read_whole g.F.Folder g.F.Reader.ByteIn c.args.folder.now c.args.path.now c.args.reader.now c.read_input.new.reader c.requires c.read_input.result (λ bytes. bytes) c.read_input.ensures.all
-    c.read_input.ensures.read
+    read_whole g.F.Folder g.F.Reader.ByteIn c.args.folder.now c.args.path.now c.args.reader.now c.read_input_pieces.new.reader c.requires c.read_input_pieces.result (λ bytes. bytes) c.read_input_pieces.ensures.all
+    c.read_input_pieces.ensures.read
 
 pub returns-clause-err : goal.returns-clause-err
 returns-clause-err g c =
-    unread_result g.F.Folder g.F.Reader.ByteIn c.args.folder.now c.args.path.now c.args.reader.now c.read_input.new.reader c.requires c.args.input c.read_input.result c.read_input.ensures.err
+    unread_result g.F.Folder g.F.Reader.ByteIn c.args.folder.now c.args.path.now c.args.reader.now c.read_input_pieces.new.reader c.requires c.args.input c.read_input_pieces.result c.read_input_pieces.ensures.err
