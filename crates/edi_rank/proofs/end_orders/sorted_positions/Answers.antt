@@ -1,4 +1,4 @@
-use Rattle.std.proofs.Common.{◌∙◌, ℕ, sym, subst, arith, get_or}
+use Rattle.std.proofs.Common.{ℕ, sym, subst, arith, get_or}
 use Rattle.edi_rank.specs.EndOrder.{PutsInOrder}
 use Rattle.edi_rank.proofs.OthersSorted.{few_in_order}
 use Rattle.edi_rank.proofs.end_orders.sorted_positions.Goals as goal

@@ -1,4 +1,4 @@
-use Rattle.std.proofs.Common.{◌≡◌, ◌++◌, ℕ, [], true, drop, map, length, get_or}
+use Rattle.std.proofs.Common.{◌≡◌, ◌++◌, ℕ, [], true, drop, length, get_or}
 use Rattle.edi_plan.specs.Plans.{IsPlace, record_at, is_object}
 use Rattle.edi_rank.specs.inner.Pieces.{pieces_from, piece_places}
 use Rattle.edi_rank.proofs.object_layer.links_by_object.Given as goal
