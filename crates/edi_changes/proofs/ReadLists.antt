@@ -1,15 +1,18 @@
 -- Reading back the text of a list.
-use Rattle.std.proofs.Common.{◌≡◌, ◌≢◌, ◌∙◌, ◌+◌, ◌<◌, ◌≤◌, ℕ, Bool, true, false, List, [], ◌∷◌, ◌++◌, get_or, slice_index, length, take, drop, codes, length-append, append_assoc, append-nil, refl, sym, ap, subst, inl, inr, true≢false, bytes_eq, Option, Some, arith}
+use Rattle.std.proofs.Common.{◌≡◌, ◌≢◌, ◌∙◌, ◌+◌, ◌<◌, ◌≤◌, ℕ, Bool, true, false, List, [], ◌∷◌, ◌++◌, get_or, slice_index, length, take, drop, codes, length-append, append_assoc, append-nil, refl, sym, ap, subst, inl, inr, true≢false, bytes_eq, Option, Some, None, arith}
 use Rattle.std.specs.List.{AllByRecursion}
+use Rattle.std.proofs.lemmas.Option.{same_Some, none-some}
 use Rattle.std.proofs.lemmas.Slice.Eq.{bytes_eq-Decides}
 use Rattle.edi_answers.specs.Hashes.{escaped_byte, escaped_name}
+use Rattle.edi_manifest.specs.LineReading.{ReadsLines, ReadsUpTo}
 use Rattle.edi_manifest.specs.inner.Reading.{HasNoByte}
 use Rattle.edi_manifest.proofs.LineTexts.{cut_same}
 use Rattle.edi_manifest.proofs.ReadBack.{no_cut}
+use Rattle.edi_manifest.proofs.ReadingOn.{kept_up_to}
 use Rattle.edi_manifest.proofs.SameLines.{push_same}
 use Rattle.edi_changes.specs.ListText.{IsListLine, list_line, list_text, schema_word}
 use Rattle.edi_changes.specs.declared.list.ListLine.{ListLine}
-use Rattle.edi_changes.specs.inner.Reading.{mark}
+use Rattle.edi_changes.specs.inner.Reading.{FindsListLine, FindsListLines, mark}
 use Rattle.edi_changes.proofs.Lines.{IsShownAs, content_lacks, content_of, line_is, shown_as}
 
 -- ---- the byte in front
@@ -174,6 +177,33 @@ finds_next lines found rest all r content behind cut lacks = go r.todo refl
             left = same.1;
           };
         }
+
+-- what is read line by line, where each line is found, is the lines
+module _ (Reads : List ℕ → Option ListLine → Type 0) (finds : (content : List ℕ) (found : Option ListLine) → Reads content found → FindsListLine content found) where
+  up_to : (lines : List ListLine) → AllByRecursion IsListLine lines → (text : List ℕ) → list_text lines ≡ text → (found : List ListLine) (rest : List ℕ)
+      → ReadsUpTo Reads text found rest → ReadUpTo lines found rest
+  up_to lines all text e found rest = kept_up_to Reads (ReadUpTo lines) step [] text found rest (none_read lines text e)
+    where
+      step : (xs : List ListLine) (content behind : List ℕ) (line : ListLine) → HasNoByte 10 content → Reads content (Some line) → ReadUpTo lines xs (content ++ 10 ∷ behind)
+          → ReadUpTo lines (xs ++ line ∷ []) behind
+      step xs content behind line lacks reads r =
+          let n = finds_next lines xs (content ++ 10 ∷ behind) all r content behind refl lacks in
+          let same : line ≡ n.line = same_Some _ _ (finds content (Some line) reads n.line n.is n.content_is) in
+          n.more (xs ++ line ∷ []) (ap (λ l. xs ++ l ∷ []) same)
+
+  found_lines : (text : List ℕ) (found : Option (List ListLine)) → ReadsLines Reads text found → FindsListLines text found
+  found_lines text (Some found) h lines all e =
+      let r = h.read in
+      ap Some (all_read lines found r.0 (up_to lines all text e found r.0 r.1) r.2)
+  found_lines text None h lines all e =
+      let r = h.read in
+      let rest = r.1 ++ 10 ∷ r.2 in
+      let n = finds_next lines r.0 rest all (up_to lines all text e r.0 rest r.3) r.1 r.2 refl r.4 in
+      absurd (none-some n.line (finds r.1 None r.5 n.line n.is n.content_is))
+
+pub lines_read : (Reads : List ℕ → Option ListLine → Type 0) (text : List ℕ) (found : Option (List ListLine)) → ReadsLines Reads text found
+    → ((content : List ℕ) (found : Option ListLine) → Reads content found → FindsListLine content found) → FindsListLines text found
+lines_read Reads text found h finds = found_lines Reads finds text found h
 
 -- ---- one line
 

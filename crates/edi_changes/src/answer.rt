@@ -1,7 +1,7 @@
 //! What `changed` answers.
-ghost use Rattle.std.specs.Prelude.{◌≡◌, ◌⊎◌, ℕ, IfErr, IfOk};
+ghost use Rattle.std.specs.Prelude.{◌≡◌, ◌⊎◌, IfErr, IfOk};
 ghost use Rattle.edi_answers.specs.Effects.{effects, inputs, written};
-ghost use Rattle.edi_answers.specs.Statuses.{Answers, IsPairStatus, IsUnsaid, OnlyLacksMemory, PrintsFirst};
+ghost use Rattle.edi_answers.specs.Statuses.{IsPairStatus, OnlyLacksMemory};
 ghost use Rattle.edi_answers.specs.WholeInputs.{OfWholeInput};
 ghost use Rattle.edi_changes.specs.Lacking.{MatchLack};
 ghost use Rattle.edi_changes.specs.Stated.{StatesDigests, StatesNoDigests};
@@ -10,15 +10,12 @@ ghost use Rattle.edi_changes.specs.inner.Answering.{IsToldOf};
 
 use crate::changes::changes_of;
 use crate::entry::Entry;
-use crate::lacking::{Lack, tell_lack};
+use crate::lacking::{Lack, read_at, tell_lack};
 use crate::stated::read_digests;
-use crate::told::{changes_text, status_of_changes};
+use crate::told::{Told, changes_text, put_told, status_of_changes};
 use edi_answers::report;
-use edi_answers::whole::read_whole;
-use edi_compare::RunFault;
 use edi_files::Folder;
 use edi_line::ByteOut;
-use edi_write::put_all;
 use std::alloc::{AllocError, Global};
 
 const NEITHER: &[u8] = b"neither a manifest nor a list of digests";
@@ -40,13 +37,13 @@ pub fn changed<F: Folder, O: ByteOut, E: ByteOut>(
         (written O.ByteOut out.old out.new) (written E.ByteOut err.old err.new) before.now after.now result }
 {
     match entries_at(alloc, folder, before) {
-        Ok(old) => changed_since(alloc, folder, old, after, out, err),
+        Ok(old) => tell_changes_since(alloc, folder, old, after, out, err),
         Err(lack) => tell_lack(alloc, folder, &lack, before, NEITHER, err),
     }
 }
 
 // Writes what has changed since a list of digests.
-fn changed_since<F: Folder, O: ByteOut, E: ByteOut>(
+fn tell_changes_since<F: Folder, O: ByteOut, E: ByteOut>(
     alloc: Global,
     folder: &F,
     old: Vec<Entry>,
@@ -71,14 +68,7 @@ fn entries_at<F: Folder>(alloc: Global, folder: &F, path: &str) -> Result<Vec<En
         OfWholeInput (inputs F.Folder F.Reader.ByteIn folder.now) path.now (λ b. StatesDigests b entries.items)) }
     ensures err { IfErr result (MatchLack StatesNoDigests (inputs F.Folder F.Reader.ByteIn folder.now) path.now) }
 {
-    match read_whole(alloc, folder, path) {
-        Ok(bytes) => match read_digests(alloc, &bytes) {
-            Ok(Some(entries)) => Ok(entries),
-            Ok(None) => Err(Lack::Other),
-            Err(error) => Err(Lack::Unread(RunFault::Memory(error))),
-        },
-        Err(fault) => Err(Lack::Unread(fault)),
-    }
+    read_at(alloc, folder, path, |text| read_digests(alloc, text))
 }
 
 // Writes what has changed between two lists of digests.
@@ -100,13 +90,6 @@ fn tell_changes<O: ByteOut, E: ByteOut>(
     }
 }
 
-// What is said of changes, and its status.
-#[derive(Drop)]
-struct Told {
-    text: Vec<u8>,
-    status: u8,
-}
-
 // What is said of the changes between two lists of digests.
 fn told_of(alloc: Global, old: Vec<Entry>, new: Vec<Entry>) -> Result<Told, AllocError>
     ensures { IfOk result (λ told. IsToldOf old.items new.items told.text.items told.status) }
@@ -116,17 +99,4 @@ fn told_of(alloc: Global, old: Vec<Entry>, new: Vec<Entry>) -> Result<Told, Allo
         text: changes_text(alloc, &changes)?,
         status: status_of_changes(&changes),
     })
-}
-
-// Writes what is said, and gives the status.
-fn put_told<O: ByteOut, E: ByteOut>(told: &Told, out: &mut O, err: &mut E) -> u8
-    ensures { (Answers (written O.ByteOut out.old out.new) (written E.ByteOut err.old err.new) told.now.text.items
-        × (result ≡ told.now.status))
-        ⊎ (((count : ℕ) × PrintsFirst (written O.ByteOut out.old out.new) count told.now.text.items)
-        × IsUnsaid (written O.ByteOut out.old out.new) (written E.ByteOut err.old err.new) × (result ≡ 4)) }
-{
-    match put_all(out, &told.text) {
-        Ok(()) => told.status,
-        Err(_) => report::unwritten(err),
-    }
 }

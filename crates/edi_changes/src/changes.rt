@@ -4,7 +4,7 @@ ghost use Rattle.std.specs.Prelude.{IfOk};
 ghost use Rattle.edi_changes.specs.Changes.{AreListChanges};
 
 use crate::entry::Entry;
-use crate::merge::merged;
+use crate::merge::changes_in_order;
 use edi_line::Text;
 use std::alloc::{AllocError, Global};
 
@@ -47,5 +47,5 @@ pub fn changes_of(
 {
     before.sort_unstable();
     after.sort_unstable();
-    merged(alloc, &before, &after)
+    changes_in_order(alloc, &before, &after)
 }

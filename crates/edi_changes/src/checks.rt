@@ -14,12 +14,11 @@ ghost use Rattle.edi_changes.specs.Lacking.{MatchLack};
 ghost use Rattle.edi_changes.specs.ListText.{IsNoList};
 ghost use Rattle.edi_changes.specs.inner.Checking.{IsSaidAs, MatchNoDigest, TellsNoDigest, status_of_said};
 
-use crate::lacking::{Lack, tell_lack};
+use crate::lacking::{Lack, read_at, tell_lack};
 use crate::list::ListLine;
 use crate::reading::read_list;
 use crate::verdict::{Said, at_least, say_verdict};
 use edi_answers::hashes::{digest_of, loaded, path_of_schema, tell_fault};
-use edi_answers::whole::read_whole;
 use edi_answers::{notes, report};
 use edi_compare::RunFault;
 use edi_files::Folder;
@@ -31,6 +30,14 @@ use std::alloc::Global;
 use std::str::from_utf8;
 
 const UNREAD_STATUS: u8 = 4;
+
+// What the lines of a list are held against: a schema, and the sheets of a folder under it.
+#[derive(Drop)]
+struct LineChecker<'a, F> {
+    alloc: Global,
+    folder: &'a F,
+    schema: &'a Schema,
+}
 
 /// Writes for each line of a list whether its digest is the one that is found: of a sheet that of its canonical file,
 /// and of a schema that of the two files. Why a sheet has none is said to `err`. Gives 0 where each is, and else the
@@ -64,14 +71,7 @@ fn lines_at<F: Folder>(alloc: Global, folder: &F, path: &str) -> Result<Vec<List
         OfWholeInput (inputs F.Folder F.Reader.ByteIn folder.now) path.now (λ b. IsListOf b lines.items)) }
     ensures err { IfErr result (MatchLack IsNoList (inputs F.Folder F.Reader.ByteIn folder.now) path.now) }
 {
-    match read_whole(alloc, folder, path) {
-        Ok(bytes) => match read_list(alloc, &bytes) {
-            Ok(Some(lines)) => Ok(lines),
-            Ok(None) => Err(Lack::Other),
-            Err(error) => Err(Lack::Unread(RunFault::Memory(error))),
-        },
-        Err(fault) => Err(Lack::Unread(fault)),
-    }
+    read_at(alloc, folder, path, |text| read_list(alloc, text))
 }
 
 // Holds the lines of a list against what is found under the schema of two files.
@@ -92,82 +92,14 @@ fn hold_under<F: Folder, O: ByteOut, E: ByteOut>(
     match loaded(alloc, folder, kinds, files) {
         Ok(loaded) => {
             notes::say(err, &loaded.note);
-            hold_each(alloc, folder, &loaded.schema, lines, out, err)
+            let checker = LineChecker {
+                alloc,
+                folder,
+                schema: &loaded.schema,
+            };
+            checker.hold_each(lines, out, err)
         }
         Err(fault) => tell_fault(alloc, folder, &fault, path_of_schema(files, &fault), err),
-    }
-}
-
-// Holds each line against what is found, and gives the greatest status; up to one in which the output fails.
-fn hold_each<F: Folder, O: ByteOut, E: ByteOut>(
-    alloc: Global,
-    folder: &F,
-    schema: &Schema,
-    lines: &[ListLine],
-    out: &mut O,
-    err: &mut E,
-) -> u8
-    ensures status { IsPairStatus result }
-    ensures answer { AreLinesHeld
-        (effects F.Folder F.Reader.ByteIn F.Sink.ByteOut F.NewFile.ByteOut folder.now folder.now) schema.now lines.now
-        (written O.ByteOut out.old out.new) (written E.ByteOut err.old err.new) result }
-    ensures out_stays { IsTrue (O.has_failed out.old) → IsTrue (O.has_failed out.new) }
-    ensures err_stays { IsTrue (E.has_failed err.old) → IsTrue (E.has_failed err.new) }
-{
-    let mut worst = 0;
-    for line in lines {
-        match hold_line(alloc, folder, schema, line, out, err) {
-            Said::Whole(status) => worst = worst.max(status),
-            Said::CutOff(status) => return worst.max(status),
-        }
-    }
-    worst
-}
-
-// Holds a line against what is found.
-fn hold_line<F: Folder, O: ByteOut, E: ByteOut>(
-    alloc: Global,
-    folder: &F,
-    schema: &Schema,
-    line: &ListLine,
-    out: &mut O,
-    err: &mut E,
-) -> Said
-    ensures status { IsPairStatus (status_of_said result) }
-    ensures said { IsSaidAs
-        (IsLineHeld (effects F.Folder F.Reader.ByteIn F.Sink.ByteOut F.NewFile.ByteOut folder.now folder.now)
-        schema.now GivesVerdict line.now)
-        (IsLineHeld (effects F.Folder F.Reader.ByteIn F.Sink.ByteOut F.NewFile.ByteOut folder.now folder.now)
-        schema.now FailsInVerdict line.now)
-        (written O.ByteOut out.old out.new) (written E.ByteOut err.old err.new) result }
-    ensures out_stays { IsTrue (O.has_failed out.old) → IsTrue (O.has_failed out.new) }
-    ensures err_stays { IsTrue (E.has_failed err.old) → IsTrue (E.has_failed err.new) }
-{
-    if line.is_schema {
-        hold_schema(alloc, schema, line, out, err)
-    } else {
-        hold_sheet(alloc, folder, schema, line, out, err)
-    }
-}
-
-// Holds the line of a schema against the digest of the schema.
-fn hold_schema<O: ByteOut, E: ByteOut>(
-    alloc: Global,
-    schema: &Schema,
-    line: &ListLine,
-    out: &mut O,
-    err: &mut E,
-) -> Said
-    ensures status { IsPairStatus (status_of_said result) }
-    ensures said { IsSaidAs (GivesVerdict line.now (bytes_eq (sha256 (text_of_schema schema.now)) line.now.digest))
-        (FailsInVerdict line.now (bytes_eq (sha256 (text_of_schema schema.now)) line.now.digest))
-        (written O.ByteOut out.old out.new) (written E.ByteOut err.old err.new) result }
-    ensures out_stays { IsTrue (O.has_failed out.old) → IsTrue (O.has_failed out.new) }
-    ensures err_stays { IsTrue (E.has_failed err.old) → IsTrue (E.has_failed err.new) }
-{
-    match schema_digest(alloc, schema) {
-        Ok(digest) => say_verdict(alloc, line, is_digest_of(&digest, line), out, err),
-        Err(_) => Said::Whole(report::out_of_memory(err)),
     }
 }
 
@@ -201,70 +133,107 @@ fn file_path(name: &[u8]) -> Result<&str, &'static [u8]>
     }
 }
 
-// The digest of the canonical file of the sheet that a name in a list is the path of.
-fn found_digest<'a, F: Folder>(
-    alloc: Global,
-    folder: &F,
-    schema: &Schema,
-    name: &'a [u8],
-) -> Result<[u8; 32], NoDigest<'a>>
-    ensures ok { IfOk result (λ digest. IsFilePath name.now
-        × IsAnswerOf (inputs F.Folder F.Reader.ByteIn folder.now) schema.now name.now (Ok digest)) }
-    ensures err { IfErr result (MatchNoDigest (inputs F.Folder F.Reader.ByteIn folder.now) schema.now name.now) }
-{
-    match file_path(name) {
-        Ok(path) => match digest_of(alloc, folder, schema, path) {
-            Ok(digest) => Ok(digest),
-            Err(fault) => Err(NoDigest::Fault(path, fault)),
-        },
-        Err(line) => Err(NoDigest::NoFile(line)),
-    }
-}
-
-// Says why a sheet has no digest, and gives the status.
-fn tell_no_digest<F: Folder, E: ByteOut>(
-    alloc: Global,
-    folder: &F,
-    why: &NoDigest<'_>,
-    err: &mut E,
-) -> u8
-    ensures status { IsPairStatus result }
-    ensures told { TellsNoDigest (F.why folder.now) (written E.ByteOut err.old err.new) why.now result }
-    ensures stays { IsTrue (E.has_failed err.old) → IsTrue (E.has_failed err.new) }
-{
-    match why {
-        NoDigest::NoFile(line) => {
-            report::warn(err, line);
-            UNREAD_STATUS
+impl<'a, F: Folder> LineChecker<'a, F> {
+    // Holds each line against what is found, and gives the greatest status; up to one in which the output fails.
+    fn hold_each<O: ByteOut, E: ByteOut>(&self, lines: &[ListLine], out: &mut O, err: &mut E) -> u8
+        ensures status { IsPairStatus result }
+        ensures answer { AreLinesHeld
+            (effects F.Folder F.Reader.ByteIn F.Sink.ByteOut F.NewFile.ByteOut self.now.folder.now self.now.folder.now)
+            self.now.schema.now lines.now (written O.ByteOut out.old out.new) (written E.ByteOut err.old err.new)
+            result }
+        ensures out_stays { IsTrue (O.has_failed out.old) → IsTrue (O.has_failed out.new) }
+        ensures err_stays { IsTrue (E.has_failed err.old) → IsTrue (E.has_failed err.new) }
+    {
+        let mut worst = 0;
+        for line in lines {
+            match self.hold_line(line, out, err) {
+                Said::Whole(status) => worst = worst.max(status),
+                Said::CutOff(status) => return worst.max(status),
+            }
         }
-        NoDigest::Fault(path, fault) => tell_fault(alloc, folder, fault, path, err),
+        worst
     }
-}
 
-// Holds the line of a sheet against the digest of its canonical file.
-fn hold_sheet<F: Folder, O: ByteOut, E: ByteOut>(
-    alloc: Global,
-    folder: &F,
-    schema: &Schema,
-    line: &ListLine,
-    out: &mut O,
-    err: &mut E,
-) -> Said
-    ensures status { IsPairStatus (status_of_said result) }
-    ensures said { IsSaidAs
-        (IsSheetHeld (effects F.Folder F.Reader.ByteIn F.Sink.ByteOut F.NewFile.ByteOut folder.now folder.now)
-        schema.now GivesVerdict line.now)
-        (IsSheetHeld (effects F.Folder F.Reader.ByteIn F.Sink.ByteOut F.NewFile.ByteOut folder.now folder.now)
-        schema.now FailsInVerdict line.now)
-        (written O.ByteOut out.old out.new) (written E.ByteOut err.old err.new) result }
-    ensures out_stays { IsTrue (O.has_failed out.old) → IsTrue (O.has_failed out.new) }
-    ensures err_stays { IsTrue (E.has_failed err.old) → IsTrue (E.has_failed err.new) }
-{
-    match found_digest(alloc, folder, schema, line.name.as_slice()) {
-        Ok(digest) => say_verdict(alloc, line, is_digest_of(&digest, line), out, err),
-        Err(why) => {
-            let status = tell_no_digest(alloc, folder, &why, err);
-            at_least(status, say_verdict(alloc, line, false, out, err))
+    // Holds a line against what is found.
+    fn hold_line<O: ByteOut, E: ByteOut>(&self, line: &ListLine, out: &mut O, err: &mut E) -> Said
+        ensures status { IsPairStatus (status_of_said result) }
+        ensures said { let held = IsLineHeld (effects F.Folder F.Reader.ByteIn F.Sink.ByteOut F.NewFile.ByteOut
+            self.now.folder.now self.now.folder.now) self.now.schema.now in
+            IsSaidAs (held GivesVerdict line.now) (held FailsInVerdict line.now)
+            (written O.ByteOut out.old out.new) (written E.ByteOut err.old err.new) result }
+        ensures out_stays { IsTrue (O.has_failed out.old) → IsTrue (O.has_failed out.new) }
+        ensures err_stays { IsTrue (E.has_failed err.old) → IsTrue (E.has_failed err.new) }
+    {
+        if line.is_schema {
+            self.hold_schema(line, out, err)
+        } else {
+            self.hold_sheet(line, out, err)
+        }
+    }
+
+    // Holds the line of a schema against the digest of the schema.
+    fn hold_schema<O: ByteOut, E: ByteOut>(&self, line: &ListLine, out: &mut O, err: &mut E) -> Said
+        ensures status { IsPairStatus (status_of_said result) }
+        ensures said { let is_same = bytes_eq (sha256 (text_of_schema self.now.schema.now)) line.now.digest in
+            IsSaidAs (GivesVerdict line.now is_same) (FailsInVerdict line.now is_same)
+            (written O.ByteOut out.old out.new) (written E.ByteOut err.old err.new) result }
+        ensures out_stays { IsTrue (O.has_failed out.old) → IsTrue (O.has_failed out.new) }
+        ensures err_stays { IsTrue (E.has_failed err.old) → IsTrue (E.has_failed err.new) }
+    {
+        match schema_digest(self.alloc, self.schema) {
+            Ok(digest) => say_verdict(self.alloc, line, is_digest_of(&digest, line), out, err),
+            Err(_) => Said::Whole(report::out_of_memory(err)),
+        }
+    }
+
+    // The digest of the canonical file of the sheet that a name in a list is the path of.
+    fn found_digest<'n>(&self, name: &'n [u8]) -> Result<[u8; 32], NoDigest<'n>>
+        ensures ok { IfOk result (λ digest. IsFilePath name.now
+            × IsAnswerOf (inputs F.Folder F.Reader.ByteIn self.now.folder.now) self.now.schema.now name.now
+            (Ok digest)) }
+        ensures err { IfErr result (MatchNoDigest (inputs F.Folder F.Reader.ByteIn self.now.folder.now)
+            self.now.schema.now name.now) }
+    {
+        match file_path(name) {
+            Ok(path) => match digest_of(self.alloc, self.folder, self.schema, path) {
+                Ok(digest) => Ok(digest),
+                Err(fault) => Err(NoDigest::Fault(path, fault)),
+            },
+            Err(line) => Err(NoDigest::NoFile(line)),
+        }
+    }
+
+    // Says why a sheet has no digest, and gives the status.
+    fn tell_no_digest<E: ByteOut>(&self, why: &NoDigest<'_>, err: &mut E) -> u8
+        ensures status { IsPairStatus result }
+        ensures told { TellsNoDigest (F.why self.now.folder.now) (written E.ByteOut err.old err.new) why.now result }
+        ensures stays { IsTrue (E.has_failed err.old) → IsTrue (E.has_failed err.new) }
+    {
+        match why {
+            NoDigest::NoFile(line) => {
+                report::warn(err, line);
+                UNREAD_STATUS
+            }
+            NoDigest::Fault(path, fault) => tell_fault(self.alloc, self.folder, fault, path, err),
+        }
+    }
+
+    // Holds the line of a sheet against the digest of its canonical file.
+    fn hold_sheet<O: ByteOut, E: ByteOut>(&self, line: &ListLine, out: &mut O, err: &mut E) -> Said
+        ensures status { IsPairStatus (status_of_said result) }
+        ensures said { let held = IsSheetHeld (effects F.Folder F.Reader.ByteIn F.Sink.ByteOut F.NewFile.ByteOut
+            self.now.folder.now self.now.folder.now) self.now.schema.now in
+            IsSaidAs (held GivesVerdict line.now) (held FailsInVerdict line.now)
+            (written O.ByteOut out.old out.new) (written E.ByteOut err.old err.new) result }
+        ensures out_stays { IsTrue (O.has_failed out.old) → IsTrue (O.has_failed out.new) }
+        ensures err_stays { IsTrue (E.has_failed err.old) → IsTrue (E.has_failed err.new) }
+    {
+        match self.found_digest(line.name.as_slice()) {
+            Ok(digest) => say_verdict(self.alloc, line, is_digest_of(&digest, line), out, err),
+            Err(why) => {
+                let status = self.tell_no_digest(&why, err);
+                at_least(status, say_verdict(self.alloc, line, false, out, err))
+            }
         }
     }
 }

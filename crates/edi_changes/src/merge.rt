@@ -17,7 +17,7 @@ use std::alloc::{AllocError, Global};
 use std::cmp::Ordering;
 
 /// What has become of each subject of two lists in order.
-pub(crate) fn merged(
+pub(crate) fn changes_in_order(
     alloc: Global,
     before: &[Entry],
     after: &[Entry],

@@ -9,7 +9,7 @@ ghost use Rattle.edi_changes.specs.inner.Reading.{FindsDigits, FindsShown, Finds
 
 use crate::list::{ListLine, list};
 use edi_line::Text;
-use edi_manifest::reading::{cut_at, digest_in};
+use edi_manifest::reading::{digest_in, read_lines};
 use std::alloc::{AllocError, Global};
 
 /// How many bytes the digits of a digest have.
@@ -36,16 +36,7 @@ fn lines_in(alloc: Global, text: &[u8]) -> Result<Option<Vec<ListLine>>, AllocEr
     ensures finds { IfOk result (λ found. FindsListLines text.now (option_map (λ lines. lines.items) found)) }
     ensures are { IfOk result (λ found. IfSome found (λ lines. AllByRecursion IsListLine lines.items)) }
 {
-    let mut found = Vec::new(alloc);
-    let mut rest = text;
-    while let Some((content, behind)) = cut_at(rest, b'\n') {
-        match line_in(alloc, content)? {
-            Some(line) => found.push(line)?,
-            None => return Ok(None),
-        }
-        rest = behind;
-    }
-    Ok(Some(found))
+    read_lines(alloc, text, |content| line_in(alloc, content))
 }
 
 // The line with this content, which has no line feed.
@@ -60,7 +51,7 @@ fn line_in(alloc: Global, content: &[u8]) -> Result<Option<ListLine>, AllocError
     let Some(digest) = digest_in(digits) else {
         return Ok(None);
     };
-    let name = unescaped(alloc, name)?;
+    let name = unescape(alloc, name)?;
     Ok(Some(ListLine {
         is_schema,
         name,
@@ -122,7 +113,7 @@ fn first_in(text: &[u8]) -> Option<(u8, &[u8])>
 }
 
 // The name that a text shows with escapes.
-fn unescaped(alloc: Global, text: &[u8]) -> Result<Text, AllocError>
+fn unescape(alloc: Global, text: &[u8]) -> Result<Text, AllocError>
     ensures { IfOk result (λ found. (name : List ℕ) → text.now ≡ escaped_name name → found ≡ name) }
 {
     let mut name = Vec::with_capacity(alloc, text.len())?;

@@ -1,13 +1,24 @@
 //! What is said of changes.
 
-ghost use Rattle.std.specs.Prelude.{◌≡◌, ◌⊎◌, ◌≤◌, ◌++◌, IfOk, OnOk, length};
+ghost use Rattle.std.specs.Prelude.{◌≡◌, ◌⊎◌, ◌≤◌, ◌++◌, ℕ, IfOk, IsTrue, OnOk, length};
 ghost use Rattle.std.specs.List.{list_all};
+ghost use Rattle.edi_answers.specs.Effects.{written};
+ghost use Rattle.edi_answers.specs.Statuses.{Answers, IsUnsaid, PrintsFirst};
 ghost use Rattle.edi_changes.specs.Told.{change_line, changes_text, count_of, counts_line, fate_number, is_same, status_of_changes, word_line};
 
 use crate::changes::{Change, Fate};
 use edi_answers::hashes::{escaped, marked};
-use edi_line::push_number;
+use edi_answers::report;
+use edi_line::{ByteOut, push_number};
+use edi_write::put_all;
 use std::alloc::{AllocError, Global};
+
+/// What is said of changes, and its status.
+#[derive(Drop)]
+pub struct Told {
+    pub text: Vec<u8>,
+    pub status: u8,
+}
 
 /// A line for each subject that is new, gone or changed, and then how many there are.
 pub fn changes_text(alloc: Global, changes: &[Change]) -> Result<Vec<u8>, AllocError>
@@ -33,12 +44,7 @@ pub fn status_of_changes(changes: &[Change]) -> u8
 fn are_same(changes: &[Change]) -> bool
     ensures { result ≡ list_all (λ c. is_same c.fate) changes.now }
 {
-    for change in changes {
-        if !is_same(change.fate) {
-            return false;
-        }
-    }
-    true
+    changes.iter().all(|change| is_same(change.fate))
 }
 
 // Whether nothing has become of a subject.
@@ -102,13 +108,10 @@ fn count_of(fate: Fate, changes: &[Change]) -> usize
     ensures value { result ≡ count_of fate changes.now }
     ensures within { result ≤ length changes.now }
 {
-    let mut count = 0;
-    for change in changes {
-        if fate_number(change.fate) == fate_number(fate) {
-            count += 1;
-        }
-    }
-    count
+    changes
+        .iter()
+        .filter(|change| fate_number(change.fate) == fate_number(fate))
+        .count()
 }
 
 // A number for each fate.
@@ -120,5 +123,19 @@ fn fate_number(fate: Fate) -> u8
         Fate::Gone => 1,
         Fate::Changed => 2,
         Fate::Same => 3,
+    }
+}
+
+/// Writes what is said, and gives the status.
+pub fn put_told<O: ByteOut, E: ByteOut>(told: &Told, out: &mut O, err: &mut E) -> u8
+    ensures said { (Answers (written O.ByteOut out.old out.new) (written E.ByteOut err.old err.new) told.now.text.items
+        × (result ≡ told.now.status))
+        ⊎ (((count : ℕ) × PrintsFirst (written O.ByteOut out.old out.new) count told.now.text.items)
+        × IsUnsaid (written O.ByteOut out.old out.new) (written E.ByteOut err.old err.new) × (result ≡ 4)) }
+    ensures stays { IsTrue (E.has_failed err.old) → IsTrue (E.has_failed err.new) }
+{
+    match put_all(out, &told.text) {
+        Ok(()) => told.status,
+        Err(_) => report::unwritten(err),
     }
 }

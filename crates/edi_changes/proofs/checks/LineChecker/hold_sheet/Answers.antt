@@ -4,12 +4,12 @@ use Rattle.edi_answers.specs.Replies.{OneThenOther}
 use Rattle.edi_changes.specs.Checks.{FailsInVerdict, GivesVerdict, IsSheetHeld, SaysNoDigest}
 use Rattle.edi_changes.specs.inner.Checking.{IsSaidAs, MatchNoDigest, at_least}
 use Rattle.edi_changes.proofs.Checking.{no_digest_said, said_behind, said_weaker}
-use Rattle.edi_changes.proofs.checks.hold_sheet.Goals as goal
+use Rattle.edi_changes.proofs.checks.LineChecker.hold_sheet.Goals as goal
 
 pub returns-in-Err-clause-said : goal.returns-in-Err-clause-said
 returns-in-Err-clause-said g c =
-    let run = effects g.F.Folder g.F.Reader.ByteIn g.F.Sink.ByteOut g.F.NewFile.ByteOut c.args.folder.now c.args.folder.now in
-    let s = c.args.schema.now in
+    let run = effects g.F.Folder g.F.Reader.ByteIn g.F.Sink.ByteOut g.F.NewFile.ByteOut c.args.self.now.folder.now c.args.self.now.folder.now in
+    let s = c.args.self.now.schema.now in
     let line = c.args.line.now in
     let o = g.O.ByteOut.contents c.args.out.now in
     let e = g.E.ByteOut.contents c.args.err.now in

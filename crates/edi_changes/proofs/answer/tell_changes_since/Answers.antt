@@ -3,7 +3,7 @@ use Rattle.edi_answers.specs.Effects.{effects, written}
 use Rattle.edi_answers.proofs.Answering.{appends_nothing}
 use Rattle.edi_changes.specs.Stated.{StatesNoDigests}
 use Rattle.edi_changes.proofs.LackTold.{lack_told}
-use Rattle.edi_changes.proofs.answer.changed_since.Goals as goal
+use Rattle.edi_changes.proofs.answer.tell_changes_since.Goals as goal
 
 pub returns-in-Err-clause-answer : goal.returns-in-Err-clause-answer
 returns-in-Err-clause-answer g c =

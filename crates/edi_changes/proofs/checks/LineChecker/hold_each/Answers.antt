@@ -7,20 +7,20 @@ use Rattle.edi_answers.proofs.Answering.{ord_max_is}
 use Rattle.edi_changes.specs.Checks.{FailsInVerdict, GivesVerdict, IsLineHeld}
 use Rattle.edi_changes.specs.inner.Checking.{IsSaidAs, status_of_said}
 use Rattle.edi_changes.proofs.Checking.{CompletesUntil, all_done, none_so_far, of_greater, one_more, stopped}
-use Rattle.edi_changes.proofs.checks.hold_each.Goals as goal
+use Rattle.edi_changes.proofs.checks.LineChecker.hold_each.Goals as goal
 
 pub loop-line-init : goal.loop-line-init
 loop-line-init g c =
-    let run = effects g.F.Folder g.F.Reader.ByteIn g.F.Sink.ByteOut g.F.NewFile.ByteOut c.args.folder.now c.args.folder.now in
-    let says = IsLineHeld run c.args.schema.now GivesVerdict in
-    let stops = IsLineHeld run c.args.schema.now FailsInVerdict in
+    let run = effects g.F.Folder g.F.Reader.ByteIn g.F.Sink.ByteOut g.F.NewFile.ByteOut c.args.self.now.folder.now c.args.self.now.folder.now in
+    let says = IsLineHeld run c.args.self.now.schema.now GivesVerdict in
+    let stops = IsLineHeld run c.args.self.now.schema.now FailsInVerdict in
     (none_so_far says stops c.args.lines.now (g.O.ByteOut.contents c.args.out.now) (g.E.ByteOut.contents c.args.err.now) (g.O.ByteOut.has_failed c.args.out.now) (g.E.ByteOut.has_failed c.args.err.now), inr (inl refl), λ t. t, λ t. t)
 
 pub loop-line-preserved : goal.loop-line-preserved
 loop-line-preserved g c =
-    let run = effects g.F.Folder g.F.Reader.ByteIn g.F.Sink.ByteOut g.F.NewFile.ByteOut c.args.folder.now c.args.folder.now in
-    let says = IsLineHeld run c.args.schema.now GivesVerdict in
-    let stops = IsLineHeld run c.args.schema.now FailsInVerdict in
+    let run = effects g.F.Folder g.F.Reader.ByteIn g.F.Sink.ByteOut g.F.NewFile.ByteOut c.args.self.now.folder.now c.args.self.now.folder.now in
+    let says = IsLineHeld run c.args.self.now.schema.now GivesVerdict in
+    let stops = IsLineHeld run c.args.self.now.schema.now FailsInVerdict in
     let out = written g.O.ByteOut c.loop-line.out c.hold_line.new.out in
     let err = written g.E.ByteOut c.loop-line.err c.hold_line.new.err in
     let o = g.O.ByteOut.contents c.args.out.now in
@@ -47,9 +47,9 @@ returns-clause-answer g c =
 
 pub returns-in-CutOff-clause-answer : goal.returns-in-CutOff-clause-answer
 returns-in-CutOff-clause-answer g c =
-    let run = effects g.F.Folder g.F.Reader.ByteIn g.F.Sink.ByteOut g.F.NewFile.ByteOut c.args.folder.now c.args.folder.now in
-    let says = IsLineHeld run c.args.schema.now GivesVerdict in
-    let stops = IsLineHeld run c.args.schema.now FailsInVerdict in
+    let run = effects g.F.Folder g.F.Reader.ByteIn g.F.Sink.ByteOut g.F.NewFile.ByteOut c.args.self.now.folder.now c.args.self.now.folder.now in
+    let says = IsLineHeld run c.args.self.now.schema.now GivesVerdict in
+    let stops = IsLineHeld run c.args.self.now.schema.now FailsInVerdict in
     let out = written g.O.ByteOut c.loop-line.out c.hold_line.new.out in
     let err = written g.E.ByteOut c.loop-line.err c.hold_line.new.err in
     let o = g.O.ByteOut.contents c.args.out.now in

@@ -2,7 +2,7 @@ use Rattle.std.proofs.Common.{◌∙◌, ◌++◌, ◌∷◌, [], List, ℕ, sym
 use Rattle.edi_changes.specs.declared.changes.Change.{Change}
 use Rattle.edi_changes.proofs.Merging.{Merged, all_merged, none_merged, one_merged}
 use Rattle.edi_changes.proofs.Orders.{some_run}
-use Rattle.edi_changes.proofs.merge.merged.Goals as goal
+use Rattle.edi_changes.proofs.merge.changes_in_order.Goals as goal
 
 pub loop-subject-init : goal.loop-subject-init
 loop-subject-init c =

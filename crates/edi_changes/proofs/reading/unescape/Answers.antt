@@ -1,7 +1,7 @@
 use Rattle.std.proofs.Common.{◌∙◌}
 use Rattle.std.proofs.lemmas.Result.{IfOk-weaker}
 use Rattle.edi_changes.proofs.ReadLists.{all_named, more_named}
-use Rattle.edi_changes.proofs.reading.unescaped.Goals as goal
+use Rattle.edi_changes.proofs.reading.unescape.Goals as goal
 
 pub loop-byte-preserved : goal.loop-byte-preserved
 loop-byte-preserved c = λ name e.
