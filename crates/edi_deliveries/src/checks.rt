@@ -1,7 +1,7 @@
 //! A delivery that is held against a manifest.
-ghost use Rattle.std.specs.Prelude.{◌≡◌, ◌⊎◌, ◌++◌, ℕ, IfErr, IfOk, IsTrue, OnOk, map};
+ghost use Rattle.std.specs.Prelude.{◌≡◌, ◌⊎◌, ◌++◌, IfErr, IfOk, IsTrue, OnOk, map};
 ghost use Rattle.edi_answers.specs.Effects.{effects, inputs, written};
-ghost use Rattle.edi_answers.specs.Statuses.{Answers, IsPairStatus, IsUnsaid, OnlyLacksMemory, PrintsFirst};
+ghost use Rattle.edi_answers.specs.Statuses.{IsPairStatus, OnlyLacksMemory};
 ghost use Rattle.edi_answers.specs.WholeInputs.{OfWholeInput};
 ghost use Rattle.edi_changes.specs.Lacking.{MatchLack};
 ghost use Rattle.edi_manifest.specs.ManifestText.{IsNoManifest};
@@ -15,18 +15,15 @@ use crate::opening::{OpenDelivery, open_delivery};
 use crate::parts::find_lines;
 use edi_answers::hashes::push_named;
 use edi_answers::report;
-use edi_answers::whole::read_whole;
-use edi_changes::lacking::{Lack, tell_lack};
-use edi_changes::told::status_of_changes;
+use edi_changes::lacking::{Lack, read_at, tell_lack};
+use edi_changes::told::{Told, put_told, status_of_changes};
 use edi_changes::verdict::verdict_word;
 use edi_changes::{Change, Entry, Fate, changes_of};
-use edi_compare::RunFault;
 use edi_files::{Folder, Listing, Progress};
 use edi_line::{ByteOut, Text};
 use edi_manifest::reading::cut_at;
 use edi_manifest::{ManifestLine, read_manifest};
 use edi_words::GivenKinds;
-use edi_write::put_all;
 use std::alloc::{AllocError, Global};
 
 /// Writes for each name of a manifest, and of the delivery that a path leads to, whether its digest is the one that is
@@ -59,14 +56,7 @@ fn manifest_at<F: Folder>(alloc: Global, folder: &F, path: &str) -> Result<Vec<M
         (λ known. OfWholeInput (inputs F.Folder F.Reader.ByteIn folder.now) path.now (StatesManifest known.items)) }
     ensures err { IfErr result (MatchLack IsNoManifest (inputs F.Folder F.Reader.ByteIn folder.now) path.now) }
 {
-    match read_whole(alloc, folder, path) {
-        Ok(bytes) => match read_manifest(alloc, &bytes) {
-            Ok(Some(lines)) => Ok(lines),
-            Ok(None) => Err(Lack::Other),
-            Err(error) => Err(Lack::Unread(RunFault::Memory(error))),
-        },
-        Err(fault) => Err(Lack::Unread(fault)),
-    }
+    read_at(alloc, folder, path, |text| read_manifest(alloc, text))
 }
 
 // Holds the delivery that a path leads to against these lines.
@@ -129,16 +119,9 @@ fn hold<O: ByteOut, E: ByteOut>(
     ensures stays { IsTrue (E.has_failed err.old) → IsTrue (E.has_failed err.new) }
 {
     match held_lines(alloc, known, lines) {
-        Ok(held) => put_held(&held, out, err),
+        Ok(held) => put_told(&held, out, err),
         Err(_) => report::out_of_memory(err),
     }
-}
-
-// What is said of lines that are held against others, and its status.
-#[derive(Drop)]
-struct HeldLines {
-    text: Vec<u8>,
-    status: u8,
 }
 
 // What is said of known lines and those that were found.
@@ -146,30 +129,16 @@ fn held_lines(
     alloc: Global,
     known: &[ManifestLine],
     lines: &[ManifestLine],
-) -> Result<HeldLines, AllocError>
+) -> Result<Told, AllocError>
     ensures { IfOk result (λ held. AreChangesSaid known.now lines.now held.text.items held.status) }
 {
     let before = named_entries(alloc, known)?;
     let after = named_entries(alloc, lines)?;
     let changes = changes_of(alloc, before, after)?;
-    Ok(HeldLines {
+    Ok(Told {
         text: held_text(alloc, &changes)?,
         status: status_of_changes(&changes),
     })
-}
-
-// Writes what is said, and gives the status.
-fn put_held<O: ByteOut, E: ByteOut>(held: &HeldLines, out: &mut O, err: &mut E) -> u8
-    ensures said { (Answers (written O.ByteOut out.old out.new) (written E.ByteOut err.old err.new) held.now.text.items
-        × (result ≡ held.now.status))
-        ⊎ (((count : ℕ) × PrintsFirst (written O.ByteOut out.old out.new) count held.now.text.items)
-        × IsUnsaid (written O.ByteOut out.old out.new) (written E.ByteOut err.old err.new) × (result ≡ 4)) }
-    ensures stays { IsTrue (E.has_failed err.old) → IsTrue (E.has_failed err.new) }
-{
-    match put_all(out, &held.text) {
-        Ok(()) => held.status,
-        Err(_) => report::unwritten(err),
-    }
 }
 
 // The digests of lines, by their names and what they are of.

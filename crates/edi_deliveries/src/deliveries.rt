@@ -6,7 +6,7 @@ ghost use Rattle.edi_deliveries.specs.Deliveries.{AreLotsAnswered, IsDeliverySta
 ghost use Rattle.edi_deliveries.specs.inner.Opening.{opened_of};
 
 use crate::found::FolderNames;
-use crate::lots::answer_lots;
+use crate::lots::LotAnswerer;
 use crate::opening::{OpenDelivery, open_delivery};
 use edi_answers::report;
 use edi_files::{Folder, Listing, Progress};
@@ -89,5 +89,12 @@ fn answer_opened<F: Folder, O: ByteOut, E: ByteOut + Progress>(
     };
     let before = opened.before.as_str();
     let lots = opened.delivery.lots();
-    answer_lots(alloc, folder, kinds, before, &names, lots, out, err)
+    let answerer = LotAnswerer {
+        alloc,
+        folder,
+        kinds,
+        before,
+        names: &names,
+    };
+    answerer.answer_lots(lots, out, err)
 }

@@ -26,6 +26,17 @@ const MISSING_STATUS: u8 = 4;
 /// In how many VEC files of a lot a record is looked for at which a link of another points.
 const MOST_SIBLINGS: usize = 64;
 
+/// What the lots of a delivery are answered by: the folder, the codes of the kinds, the names in the folder of its THF
+/// file, and what stands before these in paths.
+#[derive(Drop)]
+pub(crate) struct LotAnswerer<'a, 'n, F> {
+    pub(crate) alloc: Global,
+    pub(crate) folder: &'a F,
+    pub(crate) kinds: &'a GivenKinds<'a>,
+    pub(crate) before: &'a str,
+    pub(crate) names: &'a FolderNames<'n>,
+}
+
 // The texts behind these.
 fn texts_of<'a>(alloc: Global, paths: &'a [String]) -> Result<Vec<&'a str>, AllocError>
     ensures { IfOk result (λ texts. map (λ text. text.now) texts.items ≡ map string_bytes paths.now) }
@@ -42,71 +53,6 @@ fn first_of<'a, 'b>(texts: &'b [&'a str], most: usize) -> &'b [&'a str]
     ensures { result.now ≡ take most texts.now }
 {
     &texts[..texts.len().min(most)]
-}
-
-// Answers the sheets of these paths, as `hash` does, with the first of them as siblings.
-fn hash_paths<F: Folder, O: ByteOut, E: ByteOut>(
-    alloc: Global,
-    folder: &F,
-    kinds: &GivenKinds<'_>,
-    paths: &LotPaths,
-    out: &mut O,
-    err: &mut E,
-) -> u8
-    ensures status { IsSheetStatus result }
-    ensures answer { ((files : ManyFiles) × HavePaths paths.now files
-        × IsHashStatus (effects F.Folder F.Reader.ByteIn F.Sink.ByteOut F.NewFile.ByteOut folder.now folder.now)
-        (written O.ByteOut out.old out.new) (written E.ByteOut err.old err.new) kinds.now files Words false
-        (siblings_of files) result)
-        ⊎ (OnlyLacksMemory (written O.ByteOut out.old out.new) (written E.ByteOut err.old err.new) × (result ≡ 5)) }
-    ensures out_stays { IsTrue (O.has_failed out.old) → IsTrue (O.has_failed out.new) }
-    ensures err_stays { IsTrue (E.has_failed err.old) → IsTrue (E.has_failed err.new) }
-{
-    let Ok(sheets) = texts_of(alloc, &paths.vecs) else {
-        return report::out_of_memory(err);
-    };
-    let files = ManyFiles {
-        scd: paths.scd.as_str(),
-        dic: paths.dic.as_str(),
-        sheets,
-    };
-    let siblings = first_of(&files.sheets, MOST_SIBLINGS);
-    hash(
-        alloc,
-        folder,
-        kinds,
-        &files,
-        AnswerForm::Words,
-        false,
-        siblings,
-        out,
-        err,
-    )
-}
-
-// Answers the VEC files of a lot that are there.
-fn hash_lot<F: Folder, O: ByteOut, E: ByteOut>(
-    alloc: Global,
-    folder: &F,
-    kinds: &GivenKinds<'_>,
-    before: &str,
-    names: &FolderNames<'_>,
-    lot: &Lot,
-    out: &mut O,
-    err: &mut E,
-) -> u8
-    ensures status { IsSheetStatus result }
-    ensures answer { IsLotHashed
-        (effects F.Folder F.Reader.ByteIn F.Sink.ByteOut F.NewFile.ByteOut folder.now folder.now) kinds.now
-        before.now (names.now) lot.now (written O.ByteOut out.old out.new) (written E.ByteOut err.old err.new) result }
-    ensures out_stays { IsTrue (O.has_failed out.old) → IsTrue (O.has_failed out.new) }
-    ensures err_stays { IsTrue (E.has_failed err.old) → IsTrue (E.has_failed err.new) }
-{
-    match lot_paths(alloc, before, names, lot) {
-        Ok(Some(paths)) => hash_paths(alloc, folder, kinds, &paths, out, err),
-        Ok(None) => 0,
-        Err(_) => report::out_of_memory(err),
-    }
 }
 
 /// Says which files of a lot are missing, and gives the status of that.
@@ -138,78 +84,117 @@ fn status_of(lines: &Result<Vec<u8>, AllocError>) -> u8
     }
 }
 
-// Answers a lot: says which of its files are missing, and answers the rest.
-fn answer_lot<F: Folder, O: ByteOut, E: ByteOut>(
-    alloc: Global,
-    folder: &F,
-    kinds: &GivenKinds<'_>,
-    before: &str,
-    names: &FolderNames<'_>,
-    lot: &Lot,
-    out: &mut O,
-    err: &mut E,
-) -> u8
-    ensures status { IsSheetStatus result }
-    ensures answer { IsLotAnswered
-        (effects F.Folder F.Reader.ByteIn F.Sink.ByteOut F.NewFile.ByteOut folder.now folder.now) kinds.now
-        before.now (names.now) lot.now (written O.ByteOut out.old out.new) (written E.ByteOut err.old err.new) result }
-    ensures out_stays { IsTrue (O.has_failed out.old) → IsTrue (O.has_failed out.new) }
-    ensures err_stays { IsTrue (E.has_failed err.old) → IsTrue (E.has_failed err.new) }
-{
-    let missing = say_missing(alloc, before, names, lot, err);
-    let hashed = hash_lot(alloc, folder, kinds, before, names, lot, out, err);
-    missing.max(hashed)
-}
-
-// Answers lots in their order, and gives the greatest status.
-fn answer_each<F: Folder, O: ByteOut, E: ByteOut + Progress>(
-    alloc: Global,
-    folder: &F,
-    kinds: &GivenKinds<'_>,
-    before: &str,
-    names: &FolderNames<'_>,
-    lots: &[Lot],
-    out: &mut O,
-    err: &mut E,
-) -> u8
-    ensures status { IsSheetStatus result }
-    ensures answer { EachInTurn (IsLotAnswered
-        (effects F.Folder F.Reader.ByteIn F.Sink.ByteOut F.NewFile.ByteOut folder.now folder.now) kinds.now
-        before.now (names.now)) lots.now (written O.ByteOut out.old out.new)
-        (written E.ByteOut err.old err.new) result }
-    ensures out_stays { IsTrue (O.has_failed out.old) → IsTrue (O.has_failed out.new) }
-    ensures err_stays { IsTrue (E.has_failed err.old) → IsTrue (E.has_failed err.new) }
-{
-    let mut worst = 0;
-    err.begin(lots.len());
-    for lot in lots {
-        let status = answer_lot(alloc, folder, kinds, before, names, lot, out, err);
-        worst = worst.max(status);
-        err.count(status != 0);
+impl<'a, 'n, F: Folder> LotAnswerer<'a, 'n, F> {
+    // Answers the sheets of these paths, as `hash` does, with the first of them as siblings.
+    fn hash_paths<O: ByteOut, E: ByteOut>(&self, paths: &LotPaths, out: &mut O, err: &mut E) -> u8
+        ensures status { IsSheetStatus result }
+        ensures answer { ((files : ManyFiles) × HavePaths paths.now files
+            × IsHashStatus
+            (effects F.Folder F.Reader.ByteIn F.Sink.ByteOut F.NewFile.ByteOut self.now.folder.now self.now.folder.now)
+            (written O.ByteOut out.old out.new) (written E.ByteOut err.old err.new) self.now.kinds.now files Words false
+            (siblings_of files) result)
+            ⊎ (OnlyLacksMemory (written O.ByteOut out.old out.new) (written E.ByteOut err.old err.new) × (result ≡ 5)) }
+        ensures out_stays { IsTrue (O.has_failed out.old) → IsTrue (O.has_failed out.new) }
+        ensures err_stays { IsTrue (E.has_failed err.old) → IsTrue (E.has_failed err.new) }
+    {
+        let Ok(sheets) = texts_of(self.alloc, &paths.vecs) else {
+            return report::out_of_memory(err);
+        };
+        let files = ManyFiles {
+            scd: paths.scd.as_str(),
+            dic: paths.dic.as_str(),
+            sheets,
+        };
+        let siblings = first_of(&files.sheets, MOST_SIBLINGS);
+        hash(
+            self.alloc,
+            self.folder,
+            self.kinds,
+            &files,
+            AnswerForm::Words,
+            false,
+            siblings,
+            out,
+            err,
+        )
     }
-    err.end();
-    worst
-}
 
-/// Answers the lots of a delivery in their order, and says which VEC files none of them names.
-pub(crate) fn answer_lots<F: Folder, O: ByteOut, E: ByteOut + Progress>(
-    alloc: Global,
-    folder: &F,
-    kinds: &GivenKinds<'_>,
-    before: &str,
-    names: &FolderNames<'_>,
-    lots: &[Lot],
-    out: &mut O,
-    err: &mut E,
-) -> u8
-    ensures status { IsSheetStatus result }
-    ensures answer { AreLotsAnswered
-        (effects F.Folder F.Reader.ByteIn F.Sink.ByteOut F.NewFile.ByteOut folder.now folder.now) kinds.now
-        before.now (names.now) lots.now (written O.ByteOut out.old out.new) (written E.ByteOut err.old err.new) result }
-    ensures out_stays { IsTrue (O.has_failed out.old) → IsTrue (O.has_failed out.new) }
-    ensures err_stays { IsTrue (E.has_failed err.old) → IsTrue (E.has_failed err.new) }
-{
-    let worst = answer_each(alloc, folder, kinds, before, names, lots, out, err);
-    let unnamed = say_lines(err, &unnamed_lines(alloc, before, names, lots), 0);
-    worst.max(unnamed)
+    // Answers the VEC files of a lot that are there.
+    fn hash_lot<O: ByteOut, E: ByteOut>(&self, lot: &Lot, out: &mut O, err: &mut E) -> u8
+        ensures status { IsSheetStatus result }
+        ensures answer { IsLotHashed
+            (effects F.Folder F.Reader.ByteIn F.Sink.ByteOut F.NewFile.ByteOut self.now.folder.now self.now.folder.now)
+            self.now.kinds.now self.now.before.now (self.now.names.now) lot.now (written O.ByteOut out.old out.new)
+            (written E.ByteOut err.old err.new) result }
+        ensures out_stays { IsTrue (O.has_failed out.old) → IsTrue (O.has_failed out.new) }
+        ensures err_stays { IsTrue (E.has_failed err.old) → IsTrue (E.has_failed err.new) }
+    {
+        match lot_paths(self.alloc, self.before, self.names, lot) {
+            Ok(Some(paths)) => self.hash_paths(&paths, out, err),
+            Ok(None) => 0,
+            Err(_) => report::out_of_memory(err),
+        }
+    }
+
+    // Answers a lot: says which of its files are missing, and answers the rest.
+    fn answer_lot<O: ByteOut, E: ByteOut>(&self, lot: &Lot, out: &mut O, err: &mut E) -> u8
+        ensures status { IsSheetStatus result }
+        ensures answer { IsLotAnswered
+            (effects F.Folder F.Reader.ByteIn F.Sink.ByteOut F.NewFile.ByteOut self.now.folder.now self.now.folder.now)
+            self.now.kinds.now self.now.before.now (self.now.names.now) lot.now (written O.ByteOut out.old out.new)
+            (written E.ByteOut err.old err.new) result }
+        ensures out_stays { IsTrue (O.has_failed out.old) → IsTrue (O.has_failed out.new) }
+        ensures err_stays { IsTrue (E.has_failed err.old) → IsTrue (E.has_failed err.new) }
+    {
+        let missing = say_missing(self.alloc, self.before, self.names, lot, err);
+        let hashed = self.hash_lot(lot, out, err);
+        missing.max(hashed)
+    }
+
+    // Answers lots in their order, and gives the greatest status.
+    fn answer_each<O: ByteOut, E: ByteOut + Progress>(
+        &self,
+        lots: &[Lot],
+        out: &mut O,
+        err: &mut E,
+    ) -> u8
+        ensures status { IsSheetStatus result }
+        ensures answer { EachInTurn (IsLotAnswered
+            (effects F.Folder F.Reader.ByteIn F.Sink.ByteOut F.NewFile.ByteOut self.now.folder.now self.now.folder.now)
+            self.now.kinds.now self.now.before.now (self.now.names.now)) lots.now (written O.ByteOut out.old out.new)
+            (written E.ByteOut err.old err.new) result }
+        ensures out_stays { IsTrue (O.has_failed out.old) → IsTrue (O.has_failed out.new) }
+        ensures err_stays { IsTrue (E.has_failed err.old) → IsTrue (E.has_failed err.new) }
+    {
+        let mut worst = 0;
+        err.begin(lots.len());
+        for lot in lots {
+            let status = self.answer_lot(lot, out, err);
+            worst = worst.max(status);
+            err.count(status != 0);
+        }
+        err.end();
+        worst
+    }
+
+    /// Answers the lots of a delivery in their order, and says which VEC files none of them names.
+    pub(crate) fn answer_lots<O: ByteOut, E: ByteOut + Progress>(
+        &self,
+        lots: &[Lot],
+        out: &mut O,
+        err: &mut E,
+    ) -> u8
+        ensures status { IsSheetStatus result }
+        ensures answer { AreLotsAnswered
+            (effects F.Folder F.Reader.ByteIn F.Sink.ByteOut F.NewFile.ByteOut self.now.folder.now self.now.folder.now)
+            self.now.kinds.now self.now.before.now (self.now.names.now) lots.now (written O.ByteOut out.old out.new)
+            (written E.ByteOut err.old err.new) result }
+        ensures out_stays { IsTrue (O.has_failed out.old) → IsTrue (O.has_failed out.new) }
+        ensures err_stays { IsTrue (E.has_failed err.old) → IsTrue (E.has_failed err.new) }
+    {
+        let worst = self.answer_each(lots, out, err);
+        let lines = unnamed_lines(self.alloc, self.before, self.names, lots);
+        let unnamed = say_lines(err, &lines, 0);
+        worst.max(unnamed)
+    }
 }

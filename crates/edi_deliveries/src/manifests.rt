@@ -26,6 +26,18 @@ use edi_words::{GivenKinds, is_standard};
 use edi_write::{Written, put_all};
 use std::alloc::{AllocError, Global};
 
+// What is asked for: the manifest of a delivery that was opened by a path, with the names in the folder of its THF
+// file, under these codes of the kinds; and FILE, where it goes.
+#[derive(Drop)]
+struct ManifestRequest<'a, 'n> {
+    alloc: Global,
+    kinds: &'a GivenKinds<'a>,
+    opened: &'a OpenDelivery,
+    names: &'a FolderNames<'n>,
+    path: &'a str,
+    file: &'a str,
+}
+
 /// Puts the manifest of the delivery that a path leads to at FILE, or sends it to `out` where that is `-`, and gives 0.
 /// FILE is replaced whole or not at all, and only where each part of the delivery has a digest and FILE is none of its
 /// files. Else `err` says what is wrong, of parts as for `answer_paths`, and the status is the greatest of these.
@@ -75,35 +87,18 @@ fn manifest_of<F: Folder + Listing, O: ByteOut, E: ByteOut + Progress>(
     let Ok(names) = FolderNames::new(alloc, &opened.names) else {
         return report::out_of_memory(err);
     };
+    let request = ManifestRequest {
+        alloc,
+        kinds,
+        opened,
+        names: &names,
+        path,
+        file,
+    };
     if is_standard(file) {
-        send(alloc, folder, kinds, opened, &names, out, err)
+        request.send(folder, out, err)
     } else {
-        put(alloc, folder, kinds, opened, &names, path, file, err)
-    }
-}
-
-// Sends the manifest of a delivery to the output.
-fn send<F: Folder, O: ByteOut, E: ByteOut + Progress>(
-    alloc: Global,
-    folder: &F,
-    kinds: &GivenKinds<'_>,
-    opened: &OpenDelivery,
-    names: &FolderNames<'_>,
-    out: &mut O,
-    err: &mut E,
-) -> u8
-    requires { names.now ≡ (opened_of opened.now).names }
-    ensures status { IsSheetStatus result }
-    ensures answer { IfAllFound (inputs F.Folder F.Reader.ByteIn folder.now) (F.why folder.now) kinds.now
-        (opened_of opened.now) (IsPrinted (written O.ByteOut out.old out.new))
-        (Prints (written O.ByteOut out.old out.new) []) (written E.ByteOut err.old err.new) result }
-{
-    let mut lines = Vec::new(alloc);
-    let status = find_lines(alloc, folder, kinds, opened, names, &mut lines, err);
-    if status == 0 {
-        print(alloc, &lines, out, err)
-    } else {
-        status
+        request.put(folder, err)
     }
 }
 
@@ -128,73 +123,6 @@ fn print<O: ByteOut, E: ByteOut>(
     }
 }
 
-// Puts the manifest of a delivery at FILE, which is none of its files.
-fn put<F: Folder + Listing, E: ByteOut + Progress>(
-    alloc: Global,
-    folder: &mut F,
-    kinds: &GivenKinds<'_>,
-    opened: &OpenDelivery,
-    names: &FolderNames<'_>,
-    path: &str,
-    file: &str,
-    err: &mut E,
-) -> u8
-    requires names { names.now ≡ (opened_of opened.now).names }
-    requires opens { Opens (inputs F.Folder F.Reader.ByteIn folder.old) (listings F.Listing folder.old) path.now
-        (opened_of opened.now) }
-    ensures status { IsSheetStatus result }
-    ensures answer { IsManifestPut
-        (effects F.Folder F.Reader.ByteIn F.Sink.ByteOut F.NewFile.ByteOut folder.old folder.new)
-        (listings F.Listing folder.old) kinds.now path.now file.now (opened_of opened.now)
-        (written E.ByteOut err.old err.new) result }
-    ensures replaced { IsManifestReplaced
-        (effects F.Folder F.Reader.ByteIn F.Sink.ByteOut F.NewFile.ByteOut folder.old folder.new)
-        (listings F.Listing folder.old) kinds.now path.now file.now }
-{
-    match is_file_in(alloc, folder, opened, names, file) {
-        Ok(true) => {
-            let fault = RunFault::Write(Written { count: 0 });
-            report::warned(alloc, folder, err, &fault, &[path, file])
-        }
-        Ok(false) => put_found(alloc, folder, kinds, opened, names, path, file, err),
-        Err(_) => report::out_of_memory(err),
-    }
-}
-
-// Whether FILE is one of the files of a delivery, or leads to one.
-fn is_file_in<F: Folder>(
-    alloc: Global,
-    folder: &F,
-    opened: &OpenDelivery,
-    names: &FolderNames<'_>,
-    file: &str,
-) -> Result<bool, AllocError>
-    requires { names.now ≡ (opened_of opened.now).names }
-    ensures { IfOk result (λ is. MatchBool is (IsFileIn (F.is_one folder.now) (opened_of opened.now) file.now)
-        (IsNoFileIn (F.is_one folder.now) (opened_of opened.now) file.now)) }
-{
-    let paths = paths_in(alloc, opened, names)?;
-    Ok(meets_any(folder, &paths, file))
-}
-
-// The paths of the files of a delivery.
-fn paths_in(
-    alloc: Global,
-    opened: &OpenDelivery,
-    names: &FolderNames<'_>,
-) -> Result<Vec<String>, AllocError>
-    requires { names.now ≡ (opened_of opened.now).names }
-    ensures { IfOk result (λ paths. map string_bytes paths.items ≡ paths_in (opened_of opened.now)) }
-{
-    let found = found_names(alloc, names, opened.delivery.lots())?;
-    let mut paths = Vec::new(alloc);
-    paths.push(String::from_str(alloc, &opened.thf)?)?;
-    for name in &found {
-        paths.push(path_in(alloc, opened.before.as_str(), name)?)?;
-    }
-    Ok(paths)
-}
-
 // Whether one of these paths is FILE, or leads to its file.
 fn meets_any<F: Folder>(folder: &F, paths: &[String], file: &str) -> bool
     ensures { MatchBool result (Any (Meets (F.is_one folder.now) file.now) (map string_bytes paths.now))
@@ -206,60 +134,6 @@ fn meets_any<F: Folder>(folder: &F, paths: &[String], file: &str) -> bool
         }
     }
     false
-}
-
-// Puts the manifest of a delivery at FILE, if each part of it is found.
-fn put_found<F: Folder + Listing, E: ByteOut + Progress>(
-    alloc: Global,
-    folder: &mut F,
-    kinds: &GivenKinds<'_>,
-    opened: &OpenDelivery,
-    names: &FolderNames<'_>,
-    path: &str,
-    file: &str,
-    err: &mut E,
-) -> u8
-    requires names { names.now ≡ (opened_of opened.now).names }
-    requires opens { Opens (inputs F.Folder F.Reader.ByteIn folder.old) (listings F.Listing folder.old) path.now
-        (opened_of opened.now) }
-    ensures status { IsSheetStatus result }
-    ensures answer { IfAllFound (inputs F.Folder F.Reader.ByteIn folder.old) (F.why folder.new) kinds.now
-        (opened_of opened.now)
-        (IsStored (effects F.Folder F.Reader.ByteIn F.Sink.ByteOut F.NewFile.ByteOut folder.old folder.new) path.now
-        file.now) (folder.new ≡ folder.old) (written E.ByteOut err.old err.new) result }
-    ensures replaced { IsManifestReplaced
-        (effects F.Folder F.Reader.ByteIn F.Sink.ByteOut F.NewFile.ByteOut folder.old folder.new)
-        (listings F.Listing folder.old) kinds.now path.now file.now }
-{
-    let mut lines = Vec::new(alloc);
-    let status = find_lines(alloc, folder, kinds, opened, names, &mut lines, err);
-    if status == 0 {
-        store(alloc, folder, &lines, path, file, err)
-    } else {
-        status
-    }
-}
-
-// Puts the manifest of lines at FILE, or says why it can't be put, and gives the status.
-fn store<F: Folder, E: ByteOut>(
-    alloc: Global,
-    folder: &mut F,
-    lines: &[ManifestLine],
-    path: &str,
-    file: &str,
-    err: &mut E,
-) -> u8
-    ensures status { IsSheetStatus result }
-    ensures answer { IsStored (effects F.Folder F.Reader.ByteIn F.Sink.ByteOut F.NewFile.ByteOut folder.old folder.new)
-        path.now file.now lines.now (written E.ByteOut err.old err.new) result }
-    ensures replaced { (effects F.Folder F.Reader.ByteIn F.Sink.ByteOut F.NewFile.ByteOut folder.old
-        folder.new).Replaces file.now (λ bytes. bytes ≡ manifest_text lines.now) }
-    ensures stays { IsTrue (E.has_failed err.old) → IsTrue (E.has_failed err.new) }
-{
-    match put_lines(alloc, folder, lines, file) {
-        Ok(()) => 0,
-        Err(fault) => report::warned(alloc, folder, err, &fault, &[path, file]),
-    }
 }
 
 // Puts the manifest of lines at FILE.
@@ -281,4 +155,141 @@ fn put_lines<F: Folder>(
 {
     let text = manifest(alloc, lines)?;
     output::put(folder, file, &text)
+}
+
+impl<'a, 'n> ManifestRequest<'a, 'n> {
+    // Sends the manifest to the output.
+    fn send<F: Folder, O: ByteOut, E: ByteOut + Progress>(
+        &self,
+        folder: &F,
+        out: &mut O,
+        err: &mut E,
+    ) -> u8
+        requires { self.now.names.now ≡ (opened_of self.now.opened.now).names }
+        ensures status { IsSheetStatus result }
+        ensures answer { IfAllFound (inputs F.Folder F.Reader.ByteIn folder.now) (F.why folder.now) self.now.kinds.now
+            (opened_of self.now.opened.now) (IsPrinted (written O.ByteOut out.old out.new))
+            (Prints (written O.ByteOut out.old out.new) []) (written E.ByteOut err.old err.new) result }
+    {
+        let mut lines = Vec::new(self.alloc);
+        let status = find_lines(
+            self.alloc,
+            folder,
+            self.kinds,
+            self.opened,
+            self.names,
+            &mut lines,
+            err,
+        );
+        if status == 0 {
+            print(self.alloc, &lines, out, err)
+        } else {
+            status
+        }
+    }
+
+    // Puts the manifest at FILE, which is none of the files of the delivery.
+    fn put<F: Folder + Listing, E: ByteOut + Progress>(&self, folder: &mut F, err: &mut E) -> u8
+        requires names { self.now.names.now ≡ (opened_of self.now.opened.now).names }
+        requires opens { Opens (inputs F.Folder F.Reader.ByteIn folder.old) (listings F.Listing folder.old)
+            self.now.path.now (opened_of self.now.opened.now) }
+        ensures status { IsSheetStatus result }
+        ensures answer { IsManifestPut
+            (effects F.Folder F.Reader.ByteIn F.Sink.ByteOut F.NewFile.ByteOut folder.old folder.new)
+            (listings F.Listing folder.old) self.now.kinds.now self.now.path.now self.now.file.now
+            (opened_of self.now.opened.now) (written E.ByteOut err.old err.new) result }
+        ensures replaced { IsManifestReplaced
+            (effects F.Folder F.Reader.ByteIn F.Sink.ByteOut F.NewFile.ByteOut folder.old folder.new)
+            (listings F.Listing folder.old) self.now.kinds.now self.now.path.now self.now.file.now }
+    {
+        match self.is_file_in(folder) {
+            Ok(true) => {
+                let fault = RunFault::Write(Written { count: 0 });
+                report::warned(self.alloc, folder, err, &fault, &[self.path, self.file])
+            }
+            Ok(false) => self.put_found(folder, err),
+            Err(_) => report::out_of_memory(err),
+        }
+    }
+
+    // Whether FILE is one of the files of the delivery, or leads to one.
+    fn is_file_in<F: Folder>(&self, folder: &F) -> Result<bool, AllocError>
+        requires { self.now.names.now ≡ (opened_of self.now.opened.now).names }
+        ensures { IfOk result (λ is. MatchBool is
+            (IsFileIn (F.is_one folder.now) (opened_of self.now.opened.now) self.now.file.now)
+            (IsNoFileIn (F.is_one folder.now) (opened_of self.now.opened.now) self.now.file.now)) }
+    {
+        let paths = self.paths_in()?;
+        Ok(meets_any(folder, &paths, self.file))
+    }
+
+    // The paths of the files of the delivery.
+    fn paths_in(&self) -> Result<Vec<String>, AllocError>
+        requires { self.now.names.now ≡ (opened_of self.now.opened.now).names }
+        ensures { IfOk result (λ paths. map string_bytes paths.items ≡ paths_in (opened_of self.now.opened.now)) }
+    {
+        let found = found_names(self.alloc, self.names, self.opened.delivery.lots())?;
+        let mut paths = Vec::new(self.alloc);
+        paths.push(String::from_str(self.alloc, &self.opened.thf)?)?;
+        for name in &found {
+            paths.push(path_in(self.alloc, self.opened.before.as_str(), name)?)?;
+        }
+        Ok(paths)
+    }
+
+    // Puts the manifest at FILE, if each part of the delivery is found.
+    fn put_found<F: Folder + Listing, E: ByteOut + Progress>(
+        &self,
+        folder: &mut F,
+        err: &mut E,
+    ) -> u8
+        requires names { self.now.names.now ≡ (opened_of self.now.opened.now).names }
+        requires opens { Opens (inputs F.Folder F.Reader.ByteIn folder.old) (listings F.Listing folder.old)
+            self.now.path.now (opened_of self.now.opened.now) }
+        ensures status { IsSheetStatus result }
+        ensures answer { IfAllFound (inputs F.Folder F.Reader.ByteIn folder.old) (F.why folder.new) self.now.kinds.now
+            (opened_of self.now.opened.now)
+            (IsStored (effects F.Folder F.Reader.ByteIn F.Sink.ByteOut F.NewFile.ByteOut folder.old folder.new)
+            self.now.path.now self.now.file.now) (folder.new ≡ folder.old) (written E.ByteOut err.old err.new) result }
+        ensures replaced { IsManifestReplaced
+            (effects F.Folder F.Reader.ByteIn F.Sink.ByteOut F.NewFile.ByteOut folder.old folder.new)
+            (listings F.Listing folder.old) self.now.kinds.now self.now.path.now self.now.file.now }
+    {
+        let mut lines = Vec::new(self.alloc);
+        let status = find_lines(
+            self.alloc,
+            folder,
+            self.kinds,
+            self.opened,
+            self.names,
+            &mut lines,
+            err,
+        );
+        if status == 0 {
+            self.store(folder, &lines, err)
+        } else {
+            status
+        }
+    }
+
+    // Puts the manifest of lines at FILE, or says why it can't be put, and gives the status.
+    fn store<F: Folder, E: ByteOut>(
+        &self,
+        folder: &mut F,
+        lines: &[ManifestLine],
+        err: &mut E,
+    ) -> u8
+        ensures status { IsSheetStatus result }
+        ensures answer { IsStored
+            (effects F.Folder F.Reader.ByteIn F.Sink.ByteOut F.NewFile.ByteOut folder.old folder.new)
+            self.now.path.now self.now.file.now lines.now (written E.ByteOut err.old err.new) result }
+        ensures replaced { (effects F.Folder F.Reader.ByteIn F.Sink.ByteOut F.NewFile.ByteOut folder.old
+            folder.new).Replaces self.now.file.now (λ bytes. bytes ≡ manifest_text lines.now) }
+        ensures stays { IsTrue (E.has_failed err.old) → IsTrue (E.has_failed err.new) }
+    {
+        match put_lines(self.alloc, folder, lines, self.file) {
+            Ok(()) => 0,
+            Err(fault) => report::warned(self.alloc, folder, err, &fault, &[self.path, self.file]),
+        }
+    }
 }

@@ -146,7 +146,7 @@ fn open_folder<F: Folder + Listing, E: ByteOut>(
         (listings F.Listing folder.now) (string_bytes thf) (written E.ByteOut err.old err.new) s) }
     ensures stays { IsTrue (E.has_failed err.old) → IsTrue (E.has_failed err.new) }
 {
-    match listed(alloc, folder, &thf) {
+    match list_folder(alloc, folder, &thf) {
         Ok(Some((names, before))) => Ok(OpenDelivery {
             thf,
             delivery,
@@ -162,7 +162,7 @@ fn open_folder<F: Folder + Listing, E: ByteOut>(
 }
 
 // The names in the folder of a THF file, if it can be listed, and what stands before these in paths.
-fn listed<F: Listing>(
+fn list_folder<F: Listing>(
     alloc: Global,
     folder: &F,
     thf: &str,

@@ -26,9 +26,13 @@ use edi_words::{GivenKinds, ManyFiles};
 use sha2::{Digest, Sha256};
 use std::alloc::{AllocError, Global};
 
-// A lot, with the names in the folder of its THF file, and what stands before these in paths.
+// A lot whose parts are to be found: with the folder, the codes of the kinds, the names in the folder of its THF file,
+// and what stands before these in paths.
 #[derive(Drop)]
-struct LotInFolder<'a> {
+struct LotFinder<'a, F> {
+    alloc: Global,
+    folder: &'a F,
+    kinds: &'a GivenKinds<'a>,
     before: &'a str,
     names: &'a FolderNames<'a>,
     lot: &'a Lot,
@@ -39,52 +43,6 @@ struct LotInFolder<'a> {
 struct LotFile {
     name: FileName,
     path: String,
-}
-
-// The file of a lot by its own name, if it is there.
-fn part_of(
-    alloc: Global,
-    placed: &LotInFolder<'_>,
-    extension: Extension,
-    own: &NamePart,
-) -> Result<Option<LotFile>, AllocError>
-    ensures { IfOk result
-        (IsPartThere (placed_of placed.now) (file_name placed.now.lot.now.name extension own.now)) }
-{
-    let name = placed.lot.file(alloc, extension, own)?;
-    match found_path(alloc, placed.before, placed.names, &name)? {
-        Some(path) => Ok(Some(LotFile { name, path })),
-        None => Ok(None),
-    }
-}
-
-// Adds the line of a part that has a digest, or says why it has none, and gives the status.
-fn add_part<F: Folder, E: ByteOut>(
-    alloc: Global,
-    folder: &F,
-    part: LotFile,
-    digested: Digested,
-    answer: Result<[u8; 32], RunFault>,
-    lines: &mut Vec<ManifestLine>,
-    err: &mut E,
-) -> u8
-    ensures status { IsSheetStatus result }
-    ensures found { AddsFound (IsPartFound (F.why folder.now) part.name digested (string_bytes part.path) answer)
-        lines.old.items lines.new.items (written E.ByteOut err.old err.new) result }
-    ensures stays { IsTrue (E.has_failed err.old) → IsTrue (E.has_failed err.new) }
-{
-    let LotFile { name, path } = part;
-    match answer {
-        Ok(digest) => {
-            let line = ManifestLine {
-                name,
-                digested,
-                digest,
-            };
-            add_line(lines, line, err)
-        }
-        Err(fault) => tell_fault(alloc, folder, &fault, &path, err),
-    }
 }
 
 // Adds a line, or says that there is no memory for it, and gives the status.
@@ -100,71 +58,12 @@ fn add_line<E: ByteOut>(lines: &mut Vec<ManifestLine>, line: ManifestLine, err: 
     }
 }
 
-// Finds a sheet of a lot under a schema.
-fn find_sheet<F: Folder, E: ByteOut>(
-    alloc: Global,
-    folder: &F,
-    schema: &Schema,
-    placed: &LotInFolder<'_>,
-    own: &NamePart,
-    lines: &mut Vec<ManifestLine>,
-    err: &mut E,
-) -> u8
-    ensures status { IsSheetStatus result }
-    ensures found { AddsFound (IsSheetFound (inputs F.Folder F.Reader.ByteIn folder.now) (F.why folder.now)
-        schema.now (placed_of placed.now) own.now)
-        lines.old.items lines.new.items (written E.ByteOut err.old err.new) result }
-    ensures stays { IsTrue (E.has_failed err.old) → IsTrue (E.has_failed err.new) }
-{
-    match part_of(alloc, placed, Extension::Vec, own) {
-        Ok(Some(part)) => {
-            let answer = digest_of(alloc, folder, schema, &part.path);
-            add_part(alloc, folder, part, Digested::Sheet, answer, lines, err)
-        }
-        Ok(None) => 0,
-        Err(_) => report::out_of_memory(err),
-    }
-}
-
 // The digest of the bytes of a path.
 fn digest_of_bytes<F: Folder>(alloc: Global, folder: &F, path: &str) -> Result<[u8; 32], RunFault>
     ensures { IsBytesAnswer (inputs F.Folder F.Reader.ByteIn folder.now) path.now result }
 {
     let bytes = read_whole(alloc, folder, path)?;
     Ok(Sha256::digest(&bytes))
-}
-
-// Finds the coordinate system of a lot.
-fn find_geo<F: Folder, E: ByteOut>(
-    alloc: Global,
-    folder: &F,
-    placed: &LotInFolder<'_>,
-    own: &NamePart,
-    lines: &mut Vec<ManifestLine>,
-    err: &mut E,
-) -> u8
-    ensures status { IsSheetStatus result }
-    ensures found { AddsFound (IsGeoFound (inputs F.Folder F.Reader.ByteIn folder.now) (F.why folder.now)
-        (placed_of placed.now) own.now)
-        lines.old.items lines.new.items (written E.ByteOut err.old err.new) result }
-    ensures stays { IsTrue (E.has_failed err.old) → IsTrue (E.has_failed err.new) }
-{
-    match part_of(alloc, placed, Extension::Geo, own) {
-        Ok(Some(part)) => {
-            let answer = digest_of_bytes(alloc, folder, &part.path);
-            add_part(
-                alloc,
-                folder,
-                part,
-                Digested::Coordinates,
-                answer,
-                lines,
-                err,
-            )
-        }
-        Ok(None) => 0,
-        Err(_) => report::out_of_memory(err),
-    }
 }
 
 // The line of a lot's schema.
@@ -178,187 +77,242 @@ fn schema_part(alloc: Global, schema: &Schema, lot: &Lot) -> Result<ManifestLine
     })
 }
 
-// Adds the line of a lot's schema, or says that there is no memory for it, and gives the status.
-fn find_schema<E: ByteOut>(
-    alloc: Global,
-    schema: &Schema,
-    lot: &Lot,
-    lines: &mut Vec<ManifestLine>,
-    err: &mut E,
-) -> u8
-    ensures status { IsSheetStatus result }
-    ensures found { AddsFound (FindsLine (schema_part lot.now schema.now))
-        lines.old.items lines.new.items (written E.ByteOut err.old err.new) result }
-    ensures stays { IsTrue (E.has_failed err.old) → IsTrue (E.has_failed err.new) }
-{
-    match schema_part(alloc, schema, lot) {
-        Ok(line) => add_line(lines, line, err),
-        Err(_) => report::out_of_memory(err),
-    }
-}
-
-// Finds the sheets of a lot under its schema, in their order, and gives the greatest status.
-fn find_each_sheet<F: Folder, E: ByteOut>(
-    alloc: Global,
-    folder: &F,
-    schema: &Schema,
-    placed: &LotInFolder<'_>,
-    lines: &mut Vec<ManifestLine>,
-    err: &mut E,
-) -> u8
-    ensures status { IsSheetStatus result }
-    ensures found { AddsFound (EachFound (IsSheetFound (inputs F.Folder F.Reader.ByteIn folder.now) (F.why folder.now)
-        schema.now (placed_of placed.now)) placed.now.lot.now.vecs)
-        lines.old.items lines.new.items (written E.ByteOut err.old err.new) result }
-    ensures stays { IsTrue (E.has_failed err.old) → IsTrue (E.has_failed err.new) }
-{
-    let mut worst = 0;
-    for own in placed.lot.vecs.as_slice() {
-        let status = find_sheet(alloc, folder, schema, placed, own, lines, err);
-        worst = worst.max(status);
-    }
-    worst
-}
-
-// Finds the schema of a lot and the sheets under it.
-fn find_sheets<F: Folder, E: ByteOut>(
-    alloc: Global,
-    folder: &F,
-    schema: &Schema,
-    placed: &LotInFolder<'_>,
-    lines: &mut Vec<ManifestLine>,
-    err: &mut E,
-) -> u8
-    ensures status { IsSheetStatus result }
-    ensures found { AddsFound (AreSheetsFound (inputs F.Folder F.Reader.ByteIn folder.now) (F.why folder.now)
-        schema.now (placed_of placed.now))
-        lines.old.items lines.new.items (written E.ByteOut err.old err.new) result }
-    ensures stays { IsTrue (E.has_failed err.old) → IsTrue (E.has_failed err.new) }
-{
-    let head = find_schema(alloc, schema, placed.lot, lines, err);
-    let sheets = find_each_sheet(alloc, folder, schema, placed, lines, err);
-    head.max(sheets)
-}
-
-// Loads the schema of a lot and finds it with the sheets under it, or says why there is none.
-fn find_under<F: Folder, E: ByteOut>(
-    alloc: Global,
-    folder: &F,
-    kinds: &GivenKinds<'_>,
-    files: &ManyFiles<'_>,
-    placed: &LotInFolder<'_>,
-    lines: &mut Vec<ManifestLine>,
-    err: &mut E,
-) -> u8
-    ensures status { IsSheetStatus result }
-    ensures found { AddsFound (IsSchemaFound (inputs F.Folder F.Reader.ByteIn folder.now) (F.why folder.now)
-        kinds.now files.now (placed_of placed.now))
-        lines.old.items lines.new.items (written E.ByteOut err.old err.new) result }
-    ensures stays { IsTrue (E.has_failed err.old) → IsTrue (E.has_failed err.new) }
-{
-    match loaded(alloc, folder, kinds, files) {
-        Ok(loaded) => {
-            notes::say(err, &loaded.note);
-            find_sheets(alloc, folder, &loaded.schema, placed, lines, err)
+impl<'a, F: Folder> LotFinder<'a, F> {
+    // The file of a lot by its own name, if it is there.
+    fn part_of(&self, extension: Extension, own: &NamePart) -> Result<Option<LotFile>, AllocError>
+        ensures { IfOk result
+            (IsPartThere (placed_of self.now) (file_name self.now.lot.now.name extension own.now)) }
+    {
+        let name = self.lot.file(self.alloc, extension, own)?;
+        match found_path(self.alloc, self.before, self.names, &name)? {
+            Some(path) => Ok(Some(LotFile { name, path })),
+            None => Ok(None),
         }
-        Err(fault) => tell_fault(alloc, folder, &fault, path_of_schema(files, &fault), err),
     }
-}
 
-// Finds the schema of a lot and its sheets, where its classes and its dictionary are there.
-fn find_classes<F: Folder, E: ByteOut>(
-    alloc: Global,
-    folder: &F,
-    kinds: &GivenKinds<'_>,
-    placed: &LotInFolder<'_>,
-    lines: &mut Vec<ManifestLine>,
-    err: &mut E,
-) -> u8
-    ensures status { IsSheetStatus result }
-    ensures found { AddsFound (AreClassesFound (inputs F.Folder F.Reader.ByteIn folder.now) (F.why folder.now)
-        kinds.now (placed_of placed.now))
-        lines.old.items lines.new.items (written E.ByteOut err.old err.new) result }
-    ensures stays { IsTrue (E.has_failed err.old) → IsTrue (E.has_failed err.new) }
-{
-    match lot_paths(alloc, placed.before, placed.names, placed.lot) {
-        Ok(Some(paths)) => {
-            let files = ManyFiles {
-                scd: paths.scd.as_str(),
-                dic: paths.dic.as_str(),
-                sheets: Vec::new(alloc),
-            };
-            find_under(alloc, folder, kinds, &files, placed, lines, err)
+    // Adds the line of a part that has a digest, or says why it has none, and gives the status.
+    fn add_part<E: ByteOut>(
+        &self,
+        part: LotFile,
+        digested: Digested,
+        answer: Result<[u8; 32], RunFault>,
+        lines: &mut Vec<ManifestLine>,
+        err: &mut E,
+    ) -> u8
+        ensures status { IsSheetStatus result }
+        ensures found { AddsFound (IsPartFound (F.why self.now.folder.now) part.name digested (string_bytes part.path)
+            answer) lines.old.items lines.new.items (written E.ByteOut err.old err.new) result }
+        ensures stays { IsTrue (E.has_failed err.old) → IsTrue (E.has_failed err.new) }
+    {
+        let LotFile { name, path } = part;
+        match answer {
+            Ok(digest) => {
+                let line = ManifestLine {
+                    name,
+                    digested,
+                    digest,
+                };
+                add_line(lines, line, err)
+            }
+            Err(fault) => tell_fault(self.alloc, self.folder, &fault, &path, err),
         }
-        Ok(None) => 0,
-        Err(_) => report::out_of_memory(err),
     }
-}
 
-// Finds the coordinate system of a lot, if it has one.
-fn find_any_geo<F: Folder, E: ByteOut>(
-    alloc: Global,
-    folder: &F,
-    placed: &LotInFolder<'_>,
-    lines: &mut Vec<ManifestLine>,
-    err: &mut E,
-) -> u8
-    ensures status { IsSheetStatus result }
-    ensures found { AddsFound (IsAnyGeoFound (inputs F.Folder F.Reader.ByteIn folder.now) (F.why folder.now)
-        (placed_of placed.now))
-        lines.old.items lines.new.items (written E.ByteOut err.old err.new) result }
-    ensures stays { IsTrue (E.has_failed err.old) → IsTrue (E.has_failed err.new) }
-{
-    match &placed.lot.geo {
-        Some(own) => find_geo(alloc, folder, placed, own, lines, err),
-        None => 0,
+    // Finds a sheet of a lot under a schema.
+    fn find_sheet<E: ByteOut>(
+        &self,
+        schema: &Schema,
+        own: &NamePart,
+        lines: &mut Vec<ManifestLine>,
+        err: &mut E,
+    ) -> u8
+        ensures status { IsSheetStatus result }
+        ensures found { AddsFound (IsSheetFound (inputs F.Folder F.Reader.ByteIn self.now.folder.now)
+            (F.why self.now.folder.now) schema.now (placed_of self.now) own.now)
+            lines.old.items lines.new.items (written E.ByteOut err.old err.new) result }
+        ensures stays { IsTrue (E.has_failed err.old) → IsTrue (E.has_failed err.new) }
+    {
+        match self.part_of(Extension::Vec, own) {
+            Ok(Some(part)) => {
+                let answer = digest_of(self.alloc, self.folder, schema, &part.path);
+                self.add_part(part, Digested::Sheet, answer, lines, err)
+            }
+            Ok(None) => 0,
+            Err(_) => report::out_of_memory(err),
+        }
     }
-}
 
-// Finds the schema, the sheets and the coordinate system of a lot.
-fn find_parts<F: Folder, E: ByteOut>(
-    alloc: Global,
-    folder: &F,
-    kinds: &GivenKinds<'_>,
-    placed: &LotInFolder<'_>,
-    lines: &mut Vec<ManifestLine>,
-    err: &mut E,
-) -> u8
-    ensures status { IsSheetStatus result }
-    ensures found { AddsFound (ArePartsFound (inputs F.Folder F.Reader.ByteIn folder.now) (F.why folder.now)
-        kinds.now (placed_of placed.now))
-        lines.old.items lines.new.items (written E.ByteOut err.old err.new) result }
-    ensures stays { IsTrue (E.has_failed err.old) → IsTrue (E.has_failed err.new) }
-{
-    let classes = find_classes(alloc, folder, kinds, placed, lines, err);
-    let geo = find_any_geo(alloc, folder, placed, lines, err);
-    classes.max(geo)
-}
+    // Finds the coordinate system of a lot.
+    fn find_geo<E: ByteOut>(&self, own: &NamePart, lines: &mut Vec<ManifestLine>, err: &mut E) -> u8
+        ensures status { IsSheetStatus result }
+        ensures found { AddsFound (IsGeoFound (inputs F.Folder F.Reader.ByteIn self.now.folder.now)
+            (F.why self.now.folder.now) (placed_of self.now) own.now)
+            lines.old.items lines.new.items (written E.ByteOut err.old err.new) result }
+        ensures stays { IsTrue (E.has_failed err.old) → IsTrue (E.has_failed err.new) }
+    {
+        match self.part_of(Extension::Geo, own) {
+            Ok(Some(part)) => {
+                let answer = digest_of_bytes(self.alloc, self.folder, &part.path);
+                self.add_part(part, Digested::Coordinates, answer, lines, err)
+            }
+            Ok(None) => 0,
+            Err(_) => report::out_of_memory(err),
+        }
+    }
 
-// Finds the parts of a lot, and says which of its files are missing.
-fn find_lot<F: Folder, E: ByteOut>(
-    alloc: Global,
-    folder: &F,
-    kinds: &GivenKinds<'_>,
-    placed: &LotInFolder<'_>,
-    lines: &mut Vec<ManifestLine>,
-    err: &mut E,
-) -> u8
-    ensures status { IsSheetStatus result }
-    ensures found { AddsFound (IsLotFound (inputs F.Folder F.Reader.ByteIn folder.now) (F.why folder.now)
-        kinds.now (placed_of placed.now))
-        lines.old.items lines.new.items (written E.ByteOut err.old err.new) result }
-    ensures stays { IsTrue (E.has_failed err.old) → IsTrue (E.has_failed err.new) }
-{
-    let missing = say_missing(alloc, placed.before, placed.names, placed.lot, err);
-    let parts = find_parts(alloc, folder, kinds, placed, lines, err);
-    missing.max(parts)
+    // Adds the line of a lot's schema, or says that there is no memory for it, and gives the status.
+    fn find_schema<E: ByteOut>(
+        &self,
+        schema: &Schema,
+        lines: &mut Vec<ManifestLine>,
+        err: &mut E,
+    ) -> u8
+        ensures status { IsSheetStatus result }
+        ensures found { AddsFound (FindsLine (schema_part self.now.lot.now schema.now))
+            lines.old.items lines.new.items (written E.ByteOut err.old err.new) result }
+        ensures stays { IsTrue (E.has_failed err.old) → IsTrue (E.has_failed err.new) }
+    {
+        match schema_part(self.alloc, schema, self.lot) {
+            Ok(line) => add_line(lines, line, err),
+            Err(_) => report::out_of_memory(err),
+        }
+    }
+
+    // Finds the sheets of a lot under its schema, in their order, and gives the greatest status.
+    fn find_each_sheet<E: ByteOut>(
+        &self,
+        schema: &Schema,
+        lines: &mut Vec<ManifestLine>,
+        err: &mut E,
+    ) -> u8
+        ensures status { IsSheetStatus result }
+        ensures found { AddsFound (EachFound (IsSheetFound (inputs F.Folder F.Reader.ByteIn self.now.folder.now)
+            (F.why self.now.folder.now) schema.now (placed_of self.now)) self.now.lot.now.vecs)
+            lines.old.items lines.new.items (written E.ByteOut err.old err.new) result }
+        ensures stays { IsTrue (E.has_failed err.old) → IsTrue (E.has_failed err.new) }
+    {
+        let mut worst = 0;
+        for own in self.lot.vecs.as_slice() {
+            let status = self.find_sheet(schema, own, lines, err);
+            worst = worst.max(status);
+        }
+        worst
+    }
+
+    // Finds the schema of a lot and the sheets under it.
+    fn find_sheets<E: ByteOut>(
+        &self,
+        schema: &Schema,
+        lines: &mut Vec<ManifestLine>,
+        err: &mut E,
+    ) -> u8
+        ensures status { IsSheetStatus result }
+        ensures found { AddsFound (AreSheetsFound (inputs F.Folder F.Reader.ByteIn self.now.folder.now)
+            (F.why self.now.folder.now) schema.now (placed_of self.now))
+            lines.old.items lines.new.items (written E.ByteOut err.old err.new) result }
+        ensures stays { IsTrue (E.has_failed err.old) → IsTrue (E.has_failed err.new) }
+    {
+        let head = self.find_schema(schema, lines, err);
+        let sheets = self.find_each_sheet(schema, lines, err);
+        head.max(sheets)
+    }
+
+    // Loads the schema of a lot and finds it with the sheets under it, or says why there is none.
+    fn find_under<E: ByteOut>(
+        &self,
+        files: &ManyFiles<'_>,
+        lines: &mut Vec<ManifestLine>,
+        err: &mut E,
+    ) -> u8
+        ensures status { IsSheetStatus result }
+        ensures found { AddsFound (IsSchemaFound (inputs F.Folder F.Reader.ByteIn self.now.folder.now)
+            (F.why self.now.folder.now) self.now.kinds.now files.now (placed_of self.now))
+            lines.old.items lines.new.items (written E.ByteOut err.old err.new) result }
+        ensures stays { IsTrue (E.has_failed err.old) → IsTrue (E.has_failed err.new) }
+    {
+        match loaded(self.alloc, self.folder, self.kinds, files) {
+            Ok(loaded) => {
+                notes::say(err, &loaded.note);
+                self.find_sheets(&loaded.schema, lines, err)
+            }
+            Err(fault) => tell_fault(
+                self.alloc,
+                self.folder,
+                &fault,
+                path_of_schema(files, &fault),
+                err,
+            ),
+        }
+    }
+
+    // Finds the schema of a lot and its sheets, where its classes and its dictionary are there.
+    fn find_classes<E: ByteOut>(&self, lines: &mut Vec<ManifestLine>, err: &mut E) -> u8
+        ensures status { IsSheetStatus result }
+        ensures found { AddsFound (AreClassesFound (inputs F.Folder F.Reader.ByteIn self.now.folder.now)
+            (F.why self.now.folder.now) self.now.kinds.now (placed_of self.now))
+            lines.old.items lines.new.items (written E.ByteOut err.old err.new) result }
+        ensures stays { IsTrue (E.has_failed err.old) → IsTrue (E.has_failed err.new) }
+    {
+        match lot_paths(self.alloc, self.before, self.names, self.lot) {
+            Ok(Some(paths)) => {
+                let files = ManyFiles {
+                    scd: paths.scd.as_str(),
+                    dic: paths.dic.as_str(),
+                    sheets: Vec::new(self.alloc),
+                };
+                self.find_under(&files, lines, err)
+            }
+            Ok(None) => 0,
+            Err(_) => report::out_of_memory(err),
+        }
+    }
+
+    // Finds the coordinate system of a lot, if it has one.
+    fn find_any_geo<E: ByteOut>(&self, lines: &mut Vec<ManifestLine>, err: &mut E) -> u8
+        ensures status { IsSheetStatus result }
+        ensures found { AddsFound (IsAnyGeoFound (inputs F.Folder F.Reader.ByteIn self.now.folder.now)
+            (F.why self.now.folder.now) (placed_of self.now))
+            lines.old.items lines.new.items (written E.ByteOut err.old err.new) result }
+        ensures stays { IsTrue (E.has_failed err.old) → IsTrue (E.has_failed err.new) }
+    {
+        match &self.lot.geo {
+            Some(own) => self.find_geo(own, lines, err),
+            None => 0,
+        }
+    }
+
+    // Finds the schema, the sheets and the coordinate system of a lot.
+    fn find_parts<E: ByteOut>(&self, lines: &mut Vec<ManifestLine>, err: &mut E) -> u8
+        ensures status { IsSheetStatus result }
+        ensures found { AddsFound (ArePartsFound (inputs F.Folder F.Reader.ByteIn self.now.folder.now)
+            (F.why self.now.folder.now) self.now.kinds.now (placed_of self.now))
+            lines.old.items lines.new.items (written E.ByteOut err.old err.new) result }
+        ensures stays { IsTrue (E.has_failed err.old) → IsTrue (E.has_failed err.new) }
+    {
+        let classes = self.find_classes(lines, err);
+        let geo = self.find_any_geo(lines, err);
+        classes.max(geo)
+    }
+
+    // Finds the parts of a lot, and says which of its files are missing.
+    fn find_lot<E: ByteOut>(&self, lines: &mut Vec<ManifestLine>, err: &mut E) -> u8
+        ensures status { IsSheetStatus result }
+        ensures found { AddsFound (IsLotFound (inputs F.Folder F.Reader.ByteIn self.now.folder.now)
+            (F.why self.now.folder.now) self.now.kinds.now (placed_of self.now))
+            lines.old.items lines.new.items (written E.ByteOut err.old err.new) result }
+        ensures stays { IsTrue (E.has_failed err.old) → IsTrue (E.has_failed err.new) }
+    {
+        let missing = say_missing(self.alloc, self.before, self.names, self.lot, err);
+        let parts = self.find_parts(lines, err);
+        missing.max(parts)
+    }
 }
 
 // Finds the parts of lots, in their order, and gives the greatest status.
 fn find_each_lot<'x, F: Folder, E: ByteOut + Progress>(
     alloc: Global,
-    folder: &F,
-    kinds: &GivenKinds<'_>,
+    folder: &'x F,
+    kinds: &'x GivenKinds<'x>,
     before: &'x str,
     names: &'x FolderNames<'x>,
     lots: &'x [Lot],
@@ -374,8 +328,15 @@ fn find_each_lot<'x, F: Folder, E: ByteOut + Progress>(
     let mut worst = 0;
     err.begin(lots.len());
     for lot in lots {
-        let placed = LotInFolder { before, names, lot };
-        let status = find_lot(alloc, folder, kinds, &placed, lines, err);
+        let finder = LotFinder {
+            alloc,
+            folder,
+            kinds,
+            before,
+            names,
+            lot,
+        };
+        let status = finder.find_lot(lines, err);
         worst = worst.max(status);
         err.count(status != 0);
     }

@@ -43,7 +43,7 @@ pub(crate) fn say_lines<E: ByteOut>(
 }
 
 // What stands before a name, and the name.
-fn joined(alloc: Global, before: &str, name: &[u8]) -> Result<Vec<u8>, AllocError>
+fn path_bytes(alloc: Global, before: &str, name: &[u8]) -> Result<Vec<u8>, AllocError>
     ensures { IfOk result (λ path. path.items ≡ before.now ++ name.now) }
 {
     let mut path = Vec::from_slice(alloc, before.as_bytes())?;
@@ -60,7 +60,7 @@ fn push_missing(
 ) -> Result<(), AllocError>
     ensures { OnOk result (lines.new.items ≡ lines.old.items ++ missing_line (before.now ++ file.now)) }
 {
-    let path = joined(alloc, before, file)?;
+    let path = path_bytes(alloc, before, file)?;
     push_named(alloc, lines, &path, b"cannot read")?;
     let name = escaped(alloc, &path)?;
     push_reason(lines, &name, Reason::NoFile)
@@ -176,7 +176,7 @@ fn lines_on_unnamed(
     let mut lines = Vec::new(alloc);
     for name in names {
         if is_unnamed(found, name) {
-            let path = joined(alloc, before, name.as_bytes())?;
+            let path = path_bytes(alloc, before, name.as_bytes())?;
             push_named(alloc, &mut lines, &path, b"not named in the THF file")?;
         }
     }
@@ -184,7 +184,7 @@ fn lines_on_unnamed(
 }
 
 // The words of a rule that a THF file breaks, and where.
-fn refused(alloc: Global, rule: u16, place: &[u8], at: u64) -> Result<Vec<u8>, AllocError>
+fn rule_words(alloc: Global, rule: u16, place: &[u8], at: u64) -> Result<Vec<u8>, AllocError>
     ensures { IfOk result (λ words. words.items ≡ codes "refused thf " ++ decimal rule ++ place.now ++ decimal at) }
 {
     let mut words = Vec::from_slice(alloc, b"refused thf ")?;
@@ -199,11 +199,11 @@ fn refusal_words(alloc: Global, fault: &DeliveryFault) -> Result<Vec<u8>, AllocE
     ensures { IfOk result (λ words. words.items ≡ refusal_words fault.now) }
 {
     match fault {
-        DeliveryFault::Line(LineFault::Broken { rule, at }) => refused(
+        DeliveryFault::Line(LineFault::Broken { rule, at }) => rule_words(
             alloc, *rule, b" line ", *at,
         ),
         DeliveryFault::Record(RecordFault::Broken { rule, at }) => {
-            refused(alloc, *rule, b" record ", *at)
+            rule_words(alloc, *rule, b" record ", *at)
         }
         DeliveryFault::Line(LineFault::Memory(_)) | DeliveryFault::Record(RecordFault::Memory(_)) =>
             { Vec::from_slice(alloc, b"out of memory") }

@@ -5,7 +5,7 @@ use Rattle.edi_answers.specs.Effects.{Stream}
 use Rattle.edi_deliveries.specs.Deliveries.{found_path}
 use Rattle.edi_deliveries.specs.Found.{Finding, PlacedLot, placed}
 use Rattle.edi_deliveries.specs.declared.parts.LotFile.{LotFile}
-use Rattle.edi_deliveries.specs.declared.parts.LotInFolder.{LotInFolder}
+use Rattle.edi_deliveries.specs.declared.parts.LotFinder.{LotFinder}
 
 -- what is added to a list of lines, of which this holds
 abbrev pub AddsLines : List ManifestLine → List ManifestLine → (List ManifestLine → Type 0) → Type 0
@@ -16,7 +16,7 @@ abbrev pub AddsFound : Finding → List ManifestLine → List ManifestLine → S
 AddsFound Found old new err s = AddsLines old new (λ found. Found found err s)
 
 -- a lot, as the program borrows it
-abbrev pub placed_of : LotInFolder → PlacedLot
+abbrev pub placed_of : {F : Type 0} → LotFinder F → PlacedLot
 placed_of p = placed p.before.now p.names.now p.lot.now
 
 -- a file of this name is there, at its path
