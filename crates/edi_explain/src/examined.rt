@@ -17,7 +17,7 @@ ghost use Rattle.edi_schema.specs.Classes.{Classes};
 ghost use Rattle.edi_explain.specs.EndNodes.{IsEndNodeIfAny};
 ghost use Rattle.edi_explain.specs.Found.{IsFound};
 ghost use Rattle.edi_explain.specs.Refusals.{IsEarlierIfAny};
-ghost use Rattle.edi_explain.specs.inner.Found.{SpeaksOfNone};
+ghost use Rattle.edi_explain.specs.inner.Found.{IsExamined, SpeaksOfNone};
 
 use crate::end_nodes::end_node;
 use crate::objects::equal_object;
@@ -146,13 +146,13 @@ pub fn examine<'a>(alloc: Global, schema: &Schema, bytes: &'a [u8]) -> Result<So
     ensures found { IfErr result (IsFound schema.now bytes.now) }
 {
     match read_sheet(alloc, bytes) {
-        Ok(sheet) => sheet_examined(alloc, schema, bytes, sheet),
+        Ok(sheet) => examine_sheet(alloc, schema, bytes, sheet),
         Err(fault) => Err(found_alone(Fault::from(fault))),
     }
 }
 
 /// The same of a sheet that breaks no rule of records.
-fn sheet_examined<'a>(
+fn examine_sheet<'a>(
     alloc: Global,
     schema: &Schema,
     bytes: &'a [u8],
@@ -160,18 +160,16 @@ fn sheet_examined<'a>(
 ) -> Result<Sound, Found<'a>>
     requires held { RecordsHold schema.now bytes.now }
     requires sheet { IsSheetOf bytes.now sheet }
-    ensures accepted { OnOk result (IsAccepted schema.now bytes.now) }
-    ensures plan { IfOk result (IsPlanOfFile schema.now bytes.now) }
-    ensures found { IfErr result (IsFound schema.now bytes.now) }
+    ensures { IsExamined schema.now bytes.now result }
 {
     match Plan::build_with_earlier(alloc, schema, sheet) {
-        Ok(plan) => plan_examined(alloc, schema, bytes, plan),
+        Ok(plan) => examine_plan(alloc, schema, bytes, plan),
         Err(unplanned) => Err(found_unplanned(alloc, schema, bytes, unplanned)),
     }
 }
 
 /// The same of a plan that breaks no rule of references.
-fn plan_examined<'a>(
+fn examine_plan<'a>(
     alloc: Global,
     schema: &Schema,
     bytes: &'a [u8],
@@ -179,12 +177,10 @@ fn plan_examined<'a>(
 ) -> Result<Sound, Found<'a>>
     requires held { ReferencesHold schema.now bytes.now }
     requires plan { IsPlanOfFile schema.now bytes.now plan }
-    ensures accepted { OnOk result (IsAccepted schema.now bytes.now) }
-    ensures plan { IfOk result (IsPlanOfFile schema.now bytes.now) }
-    ensures found { IfErr result (IsFound schema.now bytes.now) }
+    ensures { IsExamined schema.now bytes.now result }
 {
     match Sound::check_or_return(alloc, plan) {
-        Ok(sound) => objects_examined(alloc, schema, bytes, sound),
+        Ok(sound) => examine_objects(alloc, schema, bytes, sound),
         Err(Unsound { plan, fault }) => Err(found_in_plan(alloc, schema, bytes, &plan, fault)),
     }
 }
@@ -232,7 +228,7 @@ fn found_in_plan<'a>(
 }
 
 /// The same of a plan that breaks no rule of topology.
-fn objects_examined<'a>(
+fn examine_objects<'a>(
     alloc: Global,
     schema: &Schema,
     bytes: &'a [u8],
@@ -240,9 +236,7 @@ fn objects_examined<'a>(
 ) -> Result<Sound, Found<'a>>
     requires held { TopologyHolds schema.now bytes.now }
     requires plan { IsPlanOfFile schema.now bytes.now sound }
-    ensures accepted { OnOk result (IsAccepted schema.now bytes.now) }
-    ensures plan { IfOk result (IsPlanOfFile schema.now bytes.now) }
-    ensures found { IfErr result (IsFound schema.now bytes.now) }
+    ensures { IsExamined schema.now bytes.now result }
 {
     let _ = schema;
     let _ = bytes;

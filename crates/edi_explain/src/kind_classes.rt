@@ -16,7 +16,7 @@ use edi_schema::{ByRole, Role};
 const KND: [u8; 3] = *b"KND";
 
 /// The kind with a code.
-fn coded(codes: &ByRole<&[u8]>, code: &[u8]) -> Option<Role>
+fn role_with_code(codes: &ByRole<&[u8]>, code: &[u8]) -> Option<Role>
     ensures { result ≡ role_coded (codes_of codes.now) code.now }
 {
     if code == codes.initial {
@@ -37,11 +37,11 @@ fn role_of(codes: &ByRole<&[u8]>, code: Option<&[u8]>, identifier: &[u8]) -> Rol
     ensures { result ≡ role_by (codes_of codes.now) (option_map (λ t. t.now) code.entry) identifier.now }
 {
     if let Some(code) = code {
-        if let Some(role) = coded(codes, code) {
+        if let Some(role) = role_with_code(codes, code) {
             return role;
         }
     }
-    match coded(codes, identifier) {
+    match role_with_code(codes, identifier) {
         Some(role) => role,
         None => Role::Plain,
     }

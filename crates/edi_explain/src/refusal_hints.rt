@@ -14,7 +14,7 @@ use edi_record::NoObserver;
 use std::alloc::{AllocError, Global};
 
 /// Whether a file breaks no rule of lines, or the first that it breaks.
-fn lines_judged(alloc: Global, bytes: &[u8]) -> Result<(), LineFault>
+fn judge_lines(alloc: Global, bytes: &[u8]) -> Result<(), LineFault>
     ensures sound { OnOk result (IsUnbroken (BreaksLineRule bytes.now)) }
     ensures least { IfErr result (IsLineRefusal (BreaksLineRule bytes.now)) }
 {
@@ -45,7 +45,7 @@ pub(crate) fn hints_at_line(
 fn hints_at_lines(alloc: Global, file: &NamedFile<'_>) -> Result<Vec<u8>, AllocError>
     ensures { IfOk result (λ lines. HintAtLines file.now.name.now file.now.bytes.now lines.items) }
 {
-    match lines_judged(alloc, file.bytes) {
+    match judge_lines(alloc, file.bytes) {
         Ok(()) => Ok(Vec::new(alloc)),
         Err(LineFault::Broken { rule, at }) => hints_at_line(alloc, file, rule, at),
         Err(LineFault::Memory(error)) => Err(error),

@@ -5,9 +5,7 @@ ghost use Rattle.edi_explain.specs.Explained.{rule_line, rule_lines};
 ghost use Rattle.edi_explain.specs.Texts.{words_of_text};
 
 use crate::text::RuleText;
-use crate::texts::{
-    of_deliveries, of_lines, of_objects, of_records, of_references, of_schemas, of_topology,
-};
+use crate::texts::texts_by_phase;
 use edi_line::push_number;
 use std::alloc::{AllocError, Global};
 
@@ -39,12 +37,8 @@ pub fn list_rules(alloc: Global) -> Result<Vec<u8>, AllocError>
     ensures { IfOk result (λ lines. lines.items ≡ rule_lines) }
 {
     let mut lines = Vec::new(alloc);
-    push_rules(&mut lines, of_lines())?;
-    push_rules(&mut lines, of_records())?;
-    push_rules(&mut lines, of_references())?;
-    push_rules(&mut lines, of_topology())?;
-    push_rules(&mut lines, of_objects())?;
-    push_rules(&mut lines, of_schemas())?;
-    push_rules(&mut lines, of_deliveries())?;
+    for texts in &texts_by_phase() {
+        push_rules(&mut lines, texts)?;
+    }
     Ok(lines)
 }

@@ -39,7 +39,7 @@ fn one_if(counts: bool) -> u64
 }
 
 /// What is read of a file and not compared, where it breaks no rule of lines.
-fn left_out(bytes: &[u8]) -> LeftOut
+fn count_left_out(bytes: &[u8]) -> LeftOut
     requires { IsUnbroken (BreaksLineRule bytes.now) }
     ensures quality { HasQuality bytes.now result.quality }
     ensures remarks { HasRemarks bytes.now result.remarks }
@@ -72,7 +72,7 @@ pub fn describe_skipped(alloc: Global, bytes: &[u8]) -> Result<Vec<u8>, AllocErr
     requires { IsUnbroken (BreaksLineRule bytes.now) }
     ensures { IfOk result (λ lines. DescribesSkipped bytes.now lines.items) }
 {
-    let left_out = left_out(bytes);
+    let left_out = count_left_out(bytes);
     let mut lines = Vec::new(alloc);
     push_left_out(&mut lines, b"quality zones", left_out.quality)?;
     push_left_out(&mut lines, b"remarks", left_out.remarks)?;

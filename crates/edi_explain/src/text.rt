@@ -1,12 +1,9 @@
 //! Rules in words.
 
 ghost use Rattle.std.specs.Prelude.{◌≡◌, map, option_map};
-ghost use Rattle.edi_explain.specs.Rules.{IsTextIfAny};
 ghost use Rattle.edi_explain.specs.Texts.{IsRuleText, words_among, words_of_text};
 
-use crate::texts::{
-    of_deliveries, of_lines, of_objects, of_records, of_references, of_schemas, of_topology,
-};
+use crate::texts::texts_by_phase;
 
 /// A rule in words.
 #[derive(Clone, Copy)]
@@ -25,8 +22,7 @@ pub struct RuleText {
 
 /// The text of a rule among these.
 fn text_among(texts: &[RuleText], rule: u16) -> Option<RuleText>
-    ensures numbers { IsTextIfAny (map (λ text. text.rule) texts.now) rule result }
-    ensures words { option_map words_of_text result ≡ words_among (map words_of_text texts.now) rule }
+    ensures { option_map words_of_text result ≡ words_among (map words_of_text texts.now) rule }
 {
     let mut rest = texts;
     while let [text, behind @ ..] = rest {
@@ -43,11 +39,10 @@ fn text_among(texts: &[RuleText], rule: u16) -> Option<RuleText>
 pub fn rule_text(rule: u16) -> Option<RuleText>
     ensures { IsRuleText rule result }
 {
-    text_among(of_lines(), rule)
-        .or(text_among(of_records(), rule))
-        .or(text_among(of_references(), rule))
-        .or(text_among(of_topology(), rule))
-        .or(text_among(of_objects(), rule))
-        .or(text_among(of_schemas(), rule))
-        .or(text_among(of_deliveries(), rule))
+    for texts in &texts_by_phase() {
+        if let Some(text) = text_among(texts, rule) {
+            return Some(text);
+        }
+    }
+    None
 }

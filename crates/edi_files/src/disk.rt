@@ -304,7 +304,7 @@ impl<R: Files<File = File> + AllocGlobal + Clone + Drop> Listing for Disk<'_, R,
     ghost unlisted = { λ _ _. ⊤ };
 
     fn names(&self, alloc: Global, path: &str) -> Result<Option<Vec<String>>, AllocError> {
-        match listed(self.rt, alloc, path) {
+        match list_names(self.rt, alloc, path) {
             Ok(mut names) => {
                 self.why.set(None);
                 names.sort_unstable();
@@ -320,7 +320,7 @@ impl<R: Files<File = File> + AllocGlobal + Clone + Drop> Listing for Disk<'_, R,
 }
 
 // The names of what lies in the folder of a path, but for those of links and those that are not UTF-8.
-fn listed<R: Files + AllocGlobal + Clone + Drop>(
+fn list_names<R: Files + AllocGlobal + Clone + Drop>(
     rt: &R,
     alloc: Global,
     path: &str,

@@ -43,7 +43,7 @@ impl Count {
             done: 0,
             wrong: 0,
             inner: 0,
-            due: later(clock, FIRST_MILLISECONDS)?,
+            due: moment_in(clock, FIRST_MILLISECONDS)?,
             is_shown: false,
         })
     }
@@ -68,7 +68,7 @@ impl Count {
 }
 
 // The moment that comes so many milliseconds from now, if the clock can be read.
-fn later(clock: &impl Clock, milliseconds: u64) -> Option<Instant> {
+fn moment_in(clock: &impl Clock, milliseconds: u64) -> Option<Instant> {
     let now = Instant::now(clock).ok()?;
     now.checked_add(Duration::from_millis(milliseconds))
 }
@@ -143,7 +143,7 @@ impl<R: Eprint + Clock> ProgressLine<'_, R> {
     pub(crate) fn count(&self, is_wrong: bool) {
         match self.count.get() {
             Some(count) if count.inner == 0 => {
-                let count = self.shown(count.with_one(is_wrong));
+                let count = self.show_if_due(count.with_one(is_wrong));
                 self.count.set(Some(count));
             }
             _ => {}
@@ -165,13 +165,13 @@ impl<R: Eprint + Clock> ProgressLine<'_, R> {
     }
 
     // Shows a count if it is due, and gives it with when it is due next.
-    fn shown(&self, count: Count) -> Count {
+    fn show_if_due(&self, count: Count) -> Count {
         if !count.is_due(self.rt) {
             return count;
         }
         self.show(count);
         Count {
-            due: later(self.rt, NEXT_MILLISECONDS).unwrap_or(count.due),
+            due: moment_in(self.rt, NEXT_MILLISECONDS).unwrap_or(count.due),
             is_shown: true,
             ..count
         }

@@ -25,13 +25,13 @@ pub fn line_of(alloc: Global, outcome: &Outcome, names: &[&[u8]]) -> Result<Vec<
     ensures { IfOk result (λ line. line.items ≡ line_for outcome.now names.now) }
 {
     match outcome {
-        Outcome::Accepted => worded(alloc, b"accepted"),
-        Outcome::Same => worded(alloc, b"same"),
-        Outcome::Different(line) => numbered(alloc, b"different at line ", *line),
-        Outcome::Pairs => worded(alloc, b"pairs"),
-        Outcome::Unpaired(why) => unpaired(alloc, name_in(names, 4), why),
+        Outcome::Accepted => line_of_words(alloc, b"accepted"),
+        Outcome::Same => line_of_words(alloc, b"same"),
+        Outcome::Different(line) => line_of_number(alloc, b"different at line ", *line),
+        Outcome::Pairs => line_of_words(alloc, b"pairs"),
+        Outcome::Unpaired(why) => lines_of_unpaired(alloc, name_in(names, 4), why),
         Outcome::WrongPairing(line, why) => {
-            reasoned(alloc, b"refused pairing line ", *line, why.words())
+            line_of_reason(alloc, b"refused pairing line ", *line, why.words())
         }
         Outcome::Fault(fault) => line_of_run(alloc, fault, names),
     }
@@ -73,13 +73,17 @@ pub fn line_of_run(alloc: Global, fault: &RunFault, names: &[&[u8]]) -> Result<V
     ensures { IfOk result (λ line. line.items ≡ ended (words_of_fault fault.now (texts names.now))) }
 {
     match fault {
-        RunFault::Memory(_) => worded(alloc, b"out of memory"),
-        RunFault::Read { input } => naming(alloc, b"cannot read ", input_in(names, *input)),
-        RunFault::TooLong { input } => naming(alloc, b"too long ", input_in(names, *input)),
+        RunFault::Memory(_) => line_of_words(alloc, b"out of memory"),
+        RunFault::Read { input } => line_of_name(alloc, b"cannot read ", input_in(names, *input)),
+        RunFault::TooLong { input } => line_of_name(alloc, b"too long ", input_in(names, *input)),
         RunFault::Schema(fault) => line_of_schema(alloc, fault),
         RunFault::First(fault) => sheet_line(alloc, first_words(names.len()), fault),
         RunFault::Second(fault) => sheet_line(alloc, b"second ", fault),
-        RunFault::Write(_) => naming(alloc, b"cannot write ", name_in(names, names.len() - 1)),
+        RunFault::Write(_) => line_of_name(
+            alloc,
+            b"cannot write ",
+            name_in(names, names.len() - 1),
+        ),
     }
 }
 
@@ -88,12 +92,12 @@ pub fn line_of_sheet(alloc: Global, fault: &RunFault) -> Result<Vec<u8>, AllocEr
     ensures { IfOk result (λ line. line.items ≡ ended (sheet_fault_text fault.now)) }
 {
     match fault {
-        RunFault::Memory(_) => worded(alloc, b"out of memory"),
-        RunFault::Read { .. } => worded(alloc, b"cannot read"),
-        RunFault::TooLong { .. } => worded(alloc, b"too long"),
+        RunFault::Memory(_) => line_of_words(alloc, b"out of memory"),
+        RunFault::Read { .. } => line_of_words(alloc, b"cannot read"),
+        RunFault::TooLong { .. } => line_of_words(alloc, b"too long"),
         RunFault::Schema(fault) => line_of_schema(alloc, fault),
         RunFault::First(fault) | RunFault::Second(fault) => sheet_line(alloc, b"", fault),
-        RunFault::Write(_) => worded(alloc, b"cannot write"),
+        RunFault::Write(_) => line_of_words(alloc, b"cannot write"),
     }
 }
 
@@ -102,14 +106,14 @@ pub fn line_of_schema(alloc: Global, fault: &SchemaFault) -> Result<Vec<u8>, All
     ensures { IfOk result (λ line. line.items ≡ ended (schema_text fault.now)) }
 {
     match fault {
-        SchemaFault::Memory(_) => worded(alloc, b"out of memory"),
+        SchemaFault::Memory(_) => line_of_words(alloc, b"out of memory"),
         SchemaFault::Line { file, rule, at } => {
-            refused(alloc, source_words(*file), *rule, b" line ", *at)
+            line_of_rule(alloc, source_words(*file), *rule, b" line ", *at)
         }
         SchemaFault::Entry { file, rule, at } => {
-            refused(alloc, source_words(*file), *rule, b" record ", *at)
+            line_of_rule(alloc, source_words(*file), *rule, b" record ", *at)
         }
-        SchemaFault::Kinds => worded(alloc, b"refused kinds 604"),
+        SchemaFault::Kinds => line_of_words(alloc, b"refused kinds 604"),
     }
 }
 
@@ -125,9 +129,9 @@ fn sheet_line(alloc: Global, which: &[u8], fault: &Fault) -> Result<Vec<u8>, All
     ensures { IfOk result (λ line. line.items ≡ ended (sheet_text which.now fault.now)) }
 {
     match fault {
-        Fault::Memory(_) => worded(alloc, b"out of memory"),
-        Fault::Line { rule, at } => refused(alloc, which, *rule, b" line ", *at),
-        Fault::Entry { rule, at } => refused(alloc, which, *rule, b" record ", *at),
+        Fault::Memory(_) => line_of_words(alloc, b"out of memory"),
+        Fault::Line { rule, at } => line_of_rule(alloc, which, *rule, b" line ", *at),
+        Fault::Entry { rule, at } => line_of_rule(alloc, which, *rule, b" record ", *at),
     }
 }
 
@@ -170,7 +174,7 @@ fn name_in<'a>(names: &[&'a [u8]], place: usize) -> &'a [u8]
 }
 
 // That a file doesn't pair, and why.
-fn unpaired(alloc: Global, file: &[u8], why: &Unpaired) -> Result<Vec<u8>, AllocError>
+fn lines_of_unpaired(alloc: Global, file: &[u8], why: &Unpaired) -> Result<Vec<u8>, AllocError>
     ensures { IfOk result (λ lines. lines.items ≡ ended (unpaired_words file.now why.now)) }
 {
     let mut lines = Vec::from_slice(alloc, b"does not pair\n")?;
@@ -180,7 +184,7 @@ fn unpaired(alloc: Global, file: &[u8], why: &Unpaired) -> Result<Vec<u8>, Alloc
 }
 
 // A rule that is broken, and where.
-fn refused(
+fn line_of_rule(
     alloc: Global,
     which: &[u8],
     rule: u16,
@@ -200,7 +204,7 @@ fn refused(
 }
 
 // Some words.
-fn worded(alloc: Global, words: &[u8]) -> Result<Vec<u8>, AllocError>
+fn line_of_words(alloc: Global, words: &[u8]) -> Result<Vec<u8>, AllocError>
     ensures { IfOk result (λ line. line.items ≡ ended words.now) }
 {
     let mut line = Vec::from_slice(alloc, words)?;
@@ -209,7 +213,7 @@ fn worded(alloc: Global, words: &[u8]) -> Result<Vec<u8>, AllocError>
 }
 
 // Some words and a name, as a line shows it.
-fn naming(alloc: Global, words: &[u8], name: &[u8]) -> Result<Vec<u8>, AllocError>
+fn line_of_name(alloc: Global, words: &[u8], name: &[u8]) -> Result<Vec<u8>, AllocError>
     ensures { IfOk result (λ line. line.items ≡ ended (words.now ++ shown_bytes name.now)) }
 {
     let mut line = Vec::from_slice(alloc, words)?;
@@ -219,7 +223,7 @@ fn naming(alloc: Global, words: &[u8], name: &[u8]) -> Result<Vec<u8>, AllocErro
 }
 
 // Some words and a number.
-fn numbered(alloc: Global, words: &[u8], number: u64) -> Result<Vec<u8>, AllocError>
+fn line_of_number(alloc: Global, words: &[u8], number: u64) -> Result<Vec<u8>, AllocError>
     ensures { IfOk result (λ line. line.items ≡ ended (words.now ++ decimal number)) }
 {
     let mut line = Vec::from_slice(alloc, words)?;
@@ -229,7 +233,12 @@ fn numbered(alloc: Global, words: &[u8], number: u64) -> Result<Vec<u8>, AllocEr
 }
 
 // Some words, a number and a reason.
-fn reasoned(alloc: Global, words: &[u8], number: u64, reason: &[u8]) -> Result<Vec<u8>, AllocError>
+fn line_of_reason(
+    alloc: Global,
+    words: &[u8],
+    number: u64,
+    reason: &[u8],
+) -> Result<Vec<u8>, AllocError>
     ensures { IfOk result (λ line. line.items ≡ ended (words.now ++ decimal number ++ codes ": " ++ reason.now)) }
 {
     let mut line = Vec::from_slice(alloc, words)?;

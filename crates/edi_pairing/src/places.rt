@@ -65,7 +65,7 @@ fn hash_of(names: &[RecordName]) -> NameHash
     parts.hash()
 }
 
-fn borrowed(name: &RecordName) -> BorrowedName<'_>
+fn borrow_name(name: &RecordName) -> BorrowedName<'_>
     ensures { owned_name result ≡ name.now }
 {
     BorrowedName {
@@ -85,7 +85,7 @@ impl<'a> PlacesByName<'a> {
         let list = names.as_slice();
         let mut set = IndexSet::with_capacity_and_hasher(alloc, list.len(), hash_of(list))?;
         for name in list {
-            set.insert(borrowed(name))?;
+            set.insert(borrow_name(name))?;
         }
         Ok(PlacesByName { names: set })
     }

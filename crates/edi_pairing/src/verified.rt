@@ -68,7 +68,7 @@ pub(crate) fn unpaired_by(
             wrong_partner(alloc, first, second, pairing, place, why)
         }
         Uncarried::Unmet { place } => {
-            let name = copied(alloc, &second.as_slice()[place as usize])?;
+            let name = copy_name(alloc, &second.as_slice()[place as usize])?;
             Ok(Unpaired::Unmet { name })
         }
     }
@@ -112,8 +112,8 @@ fn named_pair(
     ensures { IfOk result (λ pair. pair ≡ pair_at first.now second.now pairing.now place) }
 {
     let to = pairing.to.as_slice()[place as usize];
-    let name = copied(alloc, &first.as_slice()[place as usize])?;
-    let partner = copied(alloc, &second.as_slice()[to as usize])?;
+    let name = copy_name(alloc, &first.as_slice()[place as usize])?;
+    let partner = copy_name(alloc, &second.as_slice()[to as usize])?;
     Ok(NamedPair {
         at: place as u64 + 2,
         name,
@@ -122,7 +122,7 @@ fn named_pair(
 }
 
 /// A name once more.
-fn copied(alloc: Global, name: &RecordName) -> Result<RecordName, AllocError>
+fn copy_name(alloc: Global, name: &RecordName) -> Result<RecordName, AllocError>
     ensures { IfOk result (λ copy. copy ≡ name.now) }
 {
     let rid = Text::from_slice(alloc, name.rid.as_slice())?;

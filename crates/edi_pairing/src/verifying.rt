@@ -37,12 +37,12 @@ pub fn verify(
 {
     let (first, second) = name_both(alloc, schema, a, b)?;
     let pairing = read_pairing(alloc, &first.names, &second.names, file)?;
-    let answer = judged(alloc, schema, &first, &second, &pairing)?;
+    let answer = judge(alloc, schema, &first, &second, &pairing)?;
     Ok(answer)
 }
 
 // Whether a pairing of two sheets carries, and why it doesn't.
-fn judged(
+fn judge(
     alloc: Global,
     schema: &Schema,
     first: &NamedSheet,

@@ -39,9 +39,13 @@ subcommand_added (Err e) added (Ok n) a sub plain from is adds = absurd adds
 subcommand_added (Ok c) (Err e) (Ok n) a sub plain from is adds = absurd adds
 subcommand_added old added (Err e) a sub plain from is adds = tt
 
--- an argument is added to a command that was made
-pub rule_added : {E : Type 0} (old new : Result Command E) (arg : Arg) (a : App) (rule : Rule) → rule.is_simple ≡ true → IfOk old (λ c. app_of c ≡ a)
-    → rule_of arg ≡ rule → IfOk new (λ n. IsOkAnd old (λ c. AddsArg c arg n)) → IfOk new (λ n. app_of n ≡ with_rule a rule)
-rule_added (Ok c) (Ok n) arg a rule plain from is adds = adds.shape (arg_local arg (ap (λ (r : Rule). r.is_simple) is ∙ plain)) ∙ ap₂ with_rule from is
-rule_added (Err e) (Ok n) arg a rule plain from is adds = absurd adds
+-- an argument is added to a command
+pub with_rule_added : (old new : Command) (arg : Arg) (a : App) (rule : Rule) → rule.is_simple ≡ true → app_of old ≡ a → rule_of arg ≡ rule → AddsArg old arg new
+    → app_of new ≡ with_rule a rule
+with_rule_added old new arg a rule plain from is adds = adds.shape (arg_local arg (ap (λ (r : Rule). r.is_simple) is ∙ plain)) ∙ ap₂ with_rule from is
+
+-- the same, if there was memory
+pub rule_added : {E : Type 0} (old : Command) (new : Result Command E) (arg : Arg) (a : App) (rule : Rule) → rule.is_simple ≡ true → app_of old ≡ a → rule_of arg ≡ rule
+    → IfOk new (AddsArg old arg) → IfOk new (λ n. app_of n ≡ with_rule a rule)
+rule_added old (Ok n) arg a rule plain from is adds = with_rule_added old n arg a rule plain from is adds
 rule_added old (Err e) arg a rule plain from is adds = tt

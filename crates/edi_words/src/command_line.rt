@@ -1,6 +1,6 @@
 //! The command line, as clap takes it.
 ghost use Rattle.std.specs.Prelude.{◌≡◌, IfOk, IsOkAnd, codes};
-ghost use Rattle.clap.specs.Words.{AddsArg, AddsSubcommand, app_of, new_app, new_rule, rule_of, with_rule};
+ghost use Rattle.clap.specs.Words.{AddsSubcommand, app_of, new_app, new_rule, rule_of, with_rule};
 ghost use Rattle.edi_words.specs.Requests.{canon_command, changed_command, check_command, compare_command, delivery_command, diff_command, draw_command, edicad, explain_command, file_rule, files_rule, flag_rule, hash_command, option_rule, optional_files_rule, schema_command, subject_rule, verify_command};
 
 use clap::{Arg, ArgAction, Command};
@@ -36,16 +36,16 @@ pub fn command<'a>(alloc: Global) -> Result<Command<'a>, AllocError>
              standard input, and writes the canonical file to standard output.",
         )
         .after_help(STATUSES);
-    let with_check = with_subcommand(Ok(bare), check(alloc));
-    let with_canon = with_subcommand(with_check, canon(alloc));
-    let with_compare = with_subcommand(with_canon, compare(alloc));
-    let with_hash = with_subcommand(with_compare, hash(alloc));
-    let with_explain = with_subcommand(with_hash, explain(alloc));
-    let with_verify = with_subcommand(with_explain, verify(alloc));
-    let with_diff = with_subcommand(with_verify, diff(alloc));
-    let with_draw = with_subcommand(with_diff, draw(alloc));
-    let with_delivery = with_subcommand(with_draw, delivery(alloc));
-    with_subcommand(with_delivery, changed(alloc))
+    let with_check = with_subcommand(Ok(bare), check_command(alloc));
+    let with_canon = with_subcommand(with_check, canon_command(alloc));
+    let with_compare = with_subcommand(with_canon, compare_command(alloc));
+    let with_hash = with_subcommand(with_compare, hash_command(alloc));
+    let with_explain = with_subcommand(with_hash, explain_command(alloc));
+    let with_verify = with_subcommand(with_explain, verify_command(alloc));
+    let with_diff = with_subcommand(with_verify, diff_command(alloc));
+    let with_draw = with_subcommand(with_diff, draw_command(alloc));
+    let with_delivery = with_subcommand(with_draw, delivery_command(alloc));
+    with_subcommand(with_delivery, changed_command(alloc))
 }
 
 // A command with one more subcommand, if there was memory for both.
@@ -58,254 +58,232 @@ fn with_subcommand<'a>(
     command?.subcommand(added?)
 }
 
-// A command with one more argument, if there was memory for both.
-fn with_argument<'a>(
-    command: Result<Command<'a>, AllocError>,
-    argument: Arg<'a>,
-) -> Result<Command<'a>, AllocError>
-    ensures { IfOk result (λ c. IsOkAnd command.entry (λ b. AddsArg b argument.entry c)) }
-{
-    command?.arg(argument)
-}
-
 // The subcommand that checks a sheet.
-fn check<'a>(alloc: Global) -> Result<Command<'a>, AllocError>
+fn check_command<'a>(alloc: Global) -> Result<Command<'a>, AllocError>
     ensures { IfOk result (λ c. app_of c ≡ check_command) }
 {
-    let over_sheet = over_sheet(
+    sheet_command(
         alloc,
         "check",
         "Says whether a sheet is accepted, or which rule it breaks first",
-    );
-    with_argument(over_sheet, flag(alloc, "json", JSON_ANSWER))
+    )?
+    .arg(flag(alloc, "json", JSON_ANSWER))
 }
 
 // The subcommand that writes a sheet's canonical file.
-fn canon<'a>(alloc: Global) -> Result<Command<'a>, AllocError>
+fn canon_command<'a>(alloc: Global) -> Result<Command<'a>, AllocError>
     ensures { IfOk result (λ c. app_of c ≡ canon_command) }
 {
-    let over_sheet = over_sheet(
+    sheet_command(
         alloc,
         "canon",
         "Writes the canonical file of a sheet to OUT",
-    );
-    let out = file(
+    )?
+    .arg(file(
         alloc,
         "OUT",
         "The canonical file, which replaces OUT whole or not at all",
-    );
-    with_argument(over_sheet, out)
+    ))
 }
 
 // The subcommand that draws a sheet.
-fn draw<'a>(alloc: Global) -> Result<Command<'a>, AllocError>
+fn draw_command<'a>(alloc: Global) -> Result<Command<'a>, AllocError>
     ensures { IfOk result (λ c. app_of c ≡ draw_command) }
 {
-    let over_sheet = over_sheet(alloc, "draw", "Draws a sheet, as an SVG file, to OUT");
-    let out = file(
+    sheet_command(alloc, "draw", "Draws a sheet, as an SVG file, to OUT")?.arg(file(
         alloc,
         "OUT",
         "The picture, which replaces OUT whole or not at all",
-    );
-    with_argument(over_sheet, out)
+    ))
 }
 
 // The subcommand that compares two sheets.
-fn compare<'a>(alloc: Global) -> Result<Command<'a>, AllocError>
+fn compare_command<'a>(alloc: Global) -> Result<Command<'a>, AllocError>
     ensures { IfOk result (λ c. app_of c ≡ compare_command) }
 {
-    let over_pair = over_pair(
+    pair_command(
         alloc,
         "compare",
         "Says whether two sheets state the same plan",
-    );
-    let pairing = option(
+    )?
+    .arg(option(
         alloc,
         "pairing",
         "FILE",
         "Where a pairing goes if the plans are the same",
-    );
-    let with_pairing = with_argument(over_pair, pairing);
-    with_argument(with_pairing, flag(alloc, "json", JSON_ANSWER))
+    ))?
+    .arg(flag(alloc, "json", JSON_ANSWER))
 }
 
 // The subcommand that gives the digests of sheets.
-fn hash<'a>(alloc: Global) -> Result<Command<'a>, AllocError>
+fn hash_command<'a>(alloc: Global) -> Result<Command<'a>, AllocError>
     ensures { IfOk result (λ c. app_of c ≡ hash_command) }
 {
-    let over_schema = over_schema(
+    schema_command(
         alloc,
         "hash",
         "Gives the SHA-256 digest of each sheet's canonical file",
-    );
-    let with_sheets = with_argument(over_schema, sheets_argument(alloc));
-    let schema = flag(alloc, "schema", "Gives the digest of the schema first");
-    let with_schema = with_argument(with_sheets, schema);
-    let check = option(
+    )?
+    .arg(sheets_argument(alloc))?
+    .arg(flag(alloc, "schema", "Gives the digest of the schema first"))?
+    .arg(option(
         alloc,
         "check",
         "LIST",
         "Says which digests of a list are still the same",
-    );
-    let with_check = with_argument(with_schema, check);
-    let json = flag(
+    ))?
+    .arg(flag(
         alloc,
         "json",
         "Gives the digests and refusals as lines of JSON",
-    );
-    with_argument(with_check, json)
+    ))
 }
 
 // The subcommand that gives the digests of the sheets of deliveries.
-fn delivery<'a>(alloc: Global) -> Result<Command<'a>, AllocError>
+fn delivery_command<'a>(alloc: Global) -> Result<Command<'a>, AllocError>
     ensures { IfOk result (λ c. app_of c ≡ delivery_command) }
 {
-    let with_kinds = with_kinds(
+    kinds_command(
         alloc,
         "delivery",
         "Gives the digests of the sheets of deliveries",
-    );
-    let with_paths = with_argument(with_kinds, paths_argument(alloc));
-    let manifest = option(
+    )?
+    .arg(paths_argument(alloc))?
+    .arg(option(
         alloc,
         "manifest",
         "FILE",
         "Where the manifest of one delivery goes",
-    );
-    let with_manifest = with_argument(with_paths, manifest);
-    let check = option(
+    ))?
+    .arg(option(
         alloc,
         "check",
         "MANIFEST",
         "Says which digests of a manifest are still the same",
-    );
-    with_argument(with_manifest, check)
+    ))
 }
 
 // The subcommand that compares two lists of digests.
-fn changed<'a>(alloc: Global) -> Result<Command<'a>, AllocError>
+fn changed_command<'a>(alloc: Global) -> Result<Command<'a>, AllocError>
     ensures { IfOk result (λ c. app_of c ≡ changed_command) }
 {
-    let bare = Command::new(alloc, "changed").about(
-        "Says which digests are new, gone or changed between two lists",
-    );
-    let before = file(alloc, "BEFORE", "A manifest, or a list as hash writes it");
-    let with_before = with_argument(Ok(bare), before);
-    let after = file(alloc, "AFTER", "A later manifest or list");
-    with_argument(with_before, after)
+    Command::new(alloc, "changed")
+        .about("Says which digests are new, gone or changed between two lists")
+        .arg(file(alloc, "BEFORE", "A manifest, or a list as hash writes it"))?
+        .arg(file(alloc, "AFTER", "A later manifest or list"))
 }
 
 // The subcommand that lists the rules, or explains a rule or sheets.
-fn explain<'a>(alloc: Global) -> Result<Command<'a>, AllocError>
+fn explain_command<'a>(alloc: Global) -> Result<Command<'a>, AllocError>
     ensures { IfOk result (λ c. app_of c ≡ explain_command) }
 {
-    let with_kinds = with_kinds(
+    kinds_command(
         alloc,
         "explain",
         "Lists the rules, or says what one means, or why a sheet is refused",
-    );
-    let with_subject = with_argument(with_kinds, subject(alloc));
-    let with_dic = with_argument(with_subject, optional_file(alloc, "DIC", DICTIONARY));
-    let with_sheets = with_argument(with_dic, sheets_argument(alloc));
-    let all = flag(
+    )?
+    .arg(subject(alloc))?
+    .arg(optional_file(alloc, "DIC", DICTIONARY))?
+    .arg(sheets_argument(alloc))?
+    .arg(flag(
         alloc,
         "all",
         "Lists every place that is wrong, and counts by rule",
-    );
-    let with_all = with_argument(with_sheets, all);
-    let json = flag(
+    ))?
+    .arg(flag(
         alloc,
         "json",
         "Says the answer and the rest as lines of JSON",
-    );
-    with_argument(with_all, json)
+    ))
 }
 
 // The subcommand that checks a pairing's file.
-fn verify<'a>(alloc: Global) -> Result<Command<'a>, AllocError>
+fn verify_command<'a>(alloc: Global) -> Result<Command<'a>, AllocError>
     ensures { IfOk result (λ c. app_of c ≡ verify_command) }
 {
-    let over_pair = over_pair(
+    pair_command(
         alloc,
         "verify",
         "Says whether a file pairs two sheets that state the same plan",
-    );
-    let pairing = file(alloc, "FILE", "The pairing, as compare --pairing writes it");
-    let with_pairing = with_argument(over_pair, pairing);
-    with_argument(with_pairing, flag(alloc, "json", JSON_ANSWER))
+    )?
+    .arg(file(alloc, "FILE", "The pairing, as compare --pairing writes it"))?
+    .arg(flag(alloc, "json", JSON_ANSWER))
 }
 
 // The subcommand that reports what differs between two sheets.
-fn diff<'a>(alloc: Global) -> Result<Command<'a>, AllocError>
+fn diff_command<'a>(alloc: Global) -> Result<Command<'a>, AllocError>
     ensures { IfOk result (λ c. app_of c ≡ diff_command) }
 {
-    let over_pair = over_pair(alloc, "diff", "Says what differs between two sheets");
-    let brief = flag(alloc, "brief", "Says only how many records differ");
-    let with_brief = with_argument(over_pair, brief);
-    let records = flag(
-        alloc,
-        "records",
-        "Lists each record that differs, and not the objects",
-    );
-    let with_records = with_argument(with_brief, records);
-    let json = flag(
-        alloc,
-        "json",
-        "Lists each record that differs as a line of JSON",
-    );
-    let with_json = with_argument(with_records, json);
-    let names = option(
-        alloc,
-        "name-by",
-        "ID,ID",
-        "Attributes that name objects [default: the usual]",
-    );
-    let with_names = with_argument(with_json, names);
-    let picture = option(
-        alloc,
-        "picture",
-        "FILE",
-        "Where a picture of what differs goes, as an SVG file",
-    );
-    with_argument(with_names, picture)
+    pair_command(alloc, "diff", "Says what differs between two sheets")?
+        .arg(flag(alloc, "brief", "Says only how many records differ"))?
+        .arg(flag(
+            alloc,
+            "records",
+            "Lists each record that differs, and not the objects",
+        ))?
+        .arg(flag(
+            alloc,
+            "json",
+            "Lists each record that differs as a line of JSON",
+        ))?
+        .arg(option(
+            alloc,
+            "name-by",
+            "ID,ID",
+            "Attributes that name objects [default: the usual]",
+        ))?
+        .arg(option(
+            alloc,
+            "picture",
+            "FILE",
+            "Where a picture of what differs goes, as an SVG file",
+        ))
 }
 
 // A subcommand over a sheet.
-fn over_sheet<'a>(alloc: Global, name: &'a str, about: &'a str) -> Result<Command<'a>, AllocError>
+fn sheet_command<'a>(
+    alloc: Global,
+    name: &'a str,
+    about: &'a str,
+) -> Result<Command<'a>, AllocError>
     ensures { IfOk result (λ c. app_of c ≡ with_rule (schema_command name.entry.now) (file_rule (codes "VEC"))) }
 {
-    let over_schema = over_schema(alloc, name, about);
-    with_argument(over_schema, file(alloc, "VEC", SHEET))
+    schema_command(alloc, name, about)?.arg(file(alloc, "VEC", SHEET))
 }
 
 // A subcommand over two sheets.
-fn over_pair<'a>(alloc: Global, name: &'a str, about: &'a str) -> Result<Command<'a>, AllocError>
+fn pair_command<'a>(alloc: Global, name: &'a str, about: &'a str) -> Result<Command<'a>, AllocError>
     ensures { IfOk result (λ c. app_of c
         ≡ with_rule (with_rule (schema_command name.entry.now) (file_rule (codes "A"))) (file_rule (codes "B"))) }
 {
-    let over_schema = over_schema(alloc, name, about);
-    let first = file(alloc, "A", "The first sheet, a file of type VEC");
-    let with_first = with_argument(over_schema, first);
-    let second = file(alloc, "B", "The second sheet, a file of type VEC");
-    with_argument(with_first, second)
+    schema_command(alloc, name, about)?
+        .arg(file(alloc, "A", "The first sheet, a file of type VEC"))?
+        .arg(file(alloc, "B", "The second sheet, a file of type VEC"))
 }
 
 // A subcommand over the files of a schema.
-fn over_schema<'a>(alloc: Global, name: &'a str, about: &'a str) -> Result<Command<'a>, AllocError>
+fn schema_command<'a>(
+    alloc: Global,
+    name: &'a str,
+    about: &'a str,
+) -> Result<Command<'a>, AllocError>
     ensures { IfOk result (λ c. app_of c ≡ schema_command name.entry.now) }
 {
-    let with_kinds = with_kinds(alloc, name, about);
-    let scd = file(
-        alloc,
-        "SCD",
-        "The schema of the delivery, a file of type SCD",
-    );
-    let with_scd = with_argument(with_kinds, scd);
-    with_argument(with_scd, file(alloc, "DIC", DICTIONARY))
+    kinds_command(alloc, name, about)?
+        .arg(file(
+            alloc,
+            "SCD",
+            "The schema of the delivery, a file of type SCD",
+        ))?
+        .arg(file(alloc, "DIC", DICTIONARY))
 }
 
 // A subcommand with the option for the codes of the kinds.
-fn with_kinds<'a>(alloc: Global, name: &'a str, about: &'a str) -> Result<Command<'a>, AllocError>
+fn kinds_command<'a>(
+    alloc: Global,
+    name: &'a str,
+    about: &'a str,
+) -> Result<Command<'a>, AllocError>
     ensures { IfOk result (λ c. app_of c ≡ with_rule (new_app name.entry.now) (option_rule (codes "kinds"))) }
 {
     let help = "Codes of the kinds of link [default: IND,FND,LPO,RPO]";

@@ -201,14 +201,14 @@ pub enum KindsFault<'a> {
 pub fn asked<'a, R: Eprint + AllocGlobal>(rt: &R, words: &'a [String]) -> Request<'a>
     ensures { IsAsked (map string_bytes words.entry.now) result }
 {
-    match parsed(rt.alloc(), words) {
-        Ok(matches) => meant(rt, &matches),
-        Err(error) => Request::Answered(refused(rt, &error)),
+    match parse(rt.alloc(), words) {
+        Ok(matches) => request_of(rt, &matches),
+        Err(error) => Request::Answered(say_error(rt, &error)),
     }
 }
 
 // The words as the command takes them.
-fn parsed<'a>(alloc: Global, words: &'a [String]) -> Result<ArgMatches<'a>, Error>
+fn parse<'a>(alloc: Global, words: &'a [String]) -> Result<ArgMatches<'a>, Error>
     ensures taken { OnOk result (fault_of edicad (map string_bytes words.entry.now) ≡ []) }
     ensures met { IfOk result (λ m. subcommand_rows_of m ≡ subcommand_of edicad (map string_bytes words.entry.now)) }
     ensures refused { IfErr result (HasKind (fault_of edicad (map string_bytes words.entry.now))) }
@@ -217,7 +217,7 @@ fn parsed<'a>(alloc: Global, words: &'a [String]) -> Result<ArgMatches<'a>, Erro
 }
 
 // What words in good form ask for.
-fn meant<'a, R: Eprint + AllocGlobal>(rt: &R, matches: &ArgMatches<'a>) -> Request<'a>
+fn request_of<'a, R: Eprint + AllocGlobal>(rt: &R, matches: &ArgMatches<'a>) -> Request<'a>
     requires { IsOwn (subcommand_rows_of matches.now) }
     ensures means { Means (subcommand_rows_of matches.now) result }
     ensures once { ReadsInputOnce (subcommand_rows_of matches.now) result }
@@ -232,11 +232,11 @@ fn meant<'a, R: Eprint + AllocGlobal>(rt: &R, matches: &ArgMatches<'a>) -> Reque
     if reads_input_twice(given) {
         return Request::Misused(Misuse::TwoStandard);
     }
-    subcommand_meant(rt, name, given, kinds)
+    request_of_subcommand(rt, name, given, kinds)
 }
 
 // What a subcommand and its arguments ask for.
-fn subcommand_meant<'a, R: Eprint + AllocGlobal>(
+fn request_of_subcommand<'a, R: Eprint + AllocGlobal>(
     rt: &R,
     name: &str,
     given: &ArgMatches<'a>,
@@ -261,8 +261,8 @@ fn subcommand_meant<'a, R: Eprint + AllocGlobal>(
                 out: path(given, "OUT"),
             },
         },
-        "compare" => compared(given, kinds),
-        "hash" => hashed(rt, given, kinds),
+        "compare" => compare_request(given, kinds),
+        "hash" => hash_request(rt, given, kinds),
         "verify" => Request::Pair {
             kinds,
             files: pair_files(given),
@@ -271,7 +271,7 @@ fn subcommand_meant<'a, R: Eprint + AllocGlobal>(
                 json: flag(given, "json"),
             },
         },
-        "diff" => differing(given, kinds),
+        "diff" => diff_request(given, kinds),
         "draw" => Request::Sheet {
             kinds,
             files: sheet_files(given),
@@ -279,17 +279,17 @@ fn subcommand_meant<'a, R: Eprint + AllocGlobal>(
                 out: path(given, "OUT"),
             },
         },
-        "delivery" => delivered(rt, given, kinds),
+        "delivery" => delivery_request(rt, given, kinds),
         "changed" => Request::Changed {
             before: path(given, "BEFORE"),
             after: path(given, "AFTER"),
         },
-        _ => explained(rt, given, kinds),
+        _ => explain_request(rt, given, kinds),
     }
 }
 
 // What the arguments of `compare` ask for.
-fn compared<'a>(given: &ArgMatches<'a>, kinds: GivenKinds<'a>) -> Request<'a>
+fn compare_request<'a>(given: &ArgMatches<'a>, kinds: GivenKinds<'a>) -> Request<'a>
     ensures { GiveKinds (rows_of (found_of given.now)) kinds.entry
         → Means (Some (codes "compare", rows_of (found_of given.now))) result }
 {
@@ -307,7 +307,7 @@ fn compared<'a>(given: &ArgMatches<'a>, kinds: GivenKinds<'a>) -> Request<'a>
 }
 
 // What the arguments of `hash` ask for.
-fn hashed<'a, R: Eprint + AllocGlobal>(
+fn hash_request<'a, R: Eprint + AllocGlobal>(
     rt: &R,
     given: &ArgMatches<'a>,
     kinds: GivenKinds<'a>,
@@ -316,8 +316,8 @@ fn hashed<'a, R: Eprint + AllocGlobal>(
         → Means (Some (codes "hash", rows_of (found_of given.now))) result }
 {
     match list_given(given) {
-        Some(list) => listed(rt, given, kinds, list),
-        None => unlisted(rt, given, kinds),
+        Some(list) => list_request(rt, given, kinds, list),
+        None => digests_request(rt, given, kinds),
     }
 }
 
@@ -329,7 +329,7 @@ fn list_given<'a>(given: &ArgMatches<'a>) -> Option<&'a str>
 }
 
 // What the arguments of `hash` ask for where they name no list.
-fn unlisted<'a, R: Eprint + AllocGlobal>(
+fn digests_request<'a, R: Eprint + AllocGlobal>(
     rt: &R,
     given: &ArgMatches<'a>,
     kinds: GivenKinds<'a>,
@@ -356,7 +356,7 @@ fn unlisted<'a, R: Eprint + AllocGlobal>(
 }
 
 // What the arguments of `hash` ask for where they name a list.
-fn listed<'a, R: Eprint + AllocGlobal>(
+fn list_request<'a, R: Eprint + AllocGlobal>(
     rt: &R,
     given: &ArgMatches<'a>,
     kinds: GivenKinds<'a>,
@@ -383,7 +383,7 @@ fn listed<'a, R: Eprint + AllocGlobal>(
 }
 
 // What the arguments of `delivery` ask for.
-fn delivered<'a, R: Eprint + AllocGlobal>(
+fn delivery_request<'a, R: Eprint + AllocGlobal>(
     rt: &R,
     given: &ArgMatches<'a>,
     kinds: GivenKinds<'a>,
@@ -392,7 +392,7 @@ fn delivered<'a, R: Eprint + AllocGlobal>(
         → Means (Some (codes "delivery", rows_of (found_of given.now))) result }
 {
     if is_given(given, "manifest") || is_given(given, "check") {
-        return of_manifest(given, kinds);
+        return manifest_request(given, kinds);
     }
     match paths(rt.alloc(), given, "PATH") {
         Ok(paths) => Request::Delivery { kinds, paths },
@@ -401,7 +401,7 @@ fn delivered<'a, R: Eprint + AllocGlobal>(
 }
 
 // What the arguments of `delivery` ask for where a manifest is to be made or checked.
-fn of_manifest<'a>(given: &ArgMatches<'a>, kinds: GivenKinds<'a>) -> Request<'a>
+fn manifest_request<'a>(given: &ArgMatches<'a>, kinds: GivenKinds<'a>) -> Request<'a>
     requires { (is_given (codes "manifest") (rows_of (found_of given.now))
         || is_given (codes "check") (rows_of (found_of given.now))) ≡ true }
     ensures { GiveKinds (rows_of (found_of given.now)) kinds.entry
@@ -452,7 +452,7 @@ fn asks_for_digests(given: &ArgMatches<'_>, with_schema: bool) -> bool
 }
 
 // What the arguments of `diff` ask for.
-fn differing<'a>(given: &ArgMatches<'a>, kinds: GivenKinds<'a>) -> Request<'a>
+fn diff_request<'a>(given: &ArgMatches<'a>, kinds: GivenKinds<'a>) -> Request<'a>
     ensures { GiveKinds (rows_of (found_of given.now)) kinds.entry
         → Means (Some (codes "diff", rows_of (found_of given.now))) result }
 {
@@ -473,7 +473,7 @@ fn differing<'a>(given: &ArgMatches<'a>, kinds: GivenKinds<'a>) -> Request<'a>
 }
 
 // What the arguments of `explain` ask for.
-fn explained<'a, R: Eprint + AllocGlobal>(
+fn explain_request<'a, R: Eprint + AllocGlobal>(
     rt: &R,
     given: &ArgMatches<'a>,
     kinds: GivenKinds<'a>,
@@ -482,7 +482,7 @@ fn explained<'a, R: Eprint + AllocGlobal>(
         → Means (Some (codes "explain", rows_of (found_of given.now))) result }
 {
     if flag(given, "all") {
-        return all_explained(rt, given, kinds);
+        return explain_all_request(rt, given, kinds);
     }
     let json = flag(given, "json");
     if !is_given(given, "SCD") {
@@ -494,12 +494,12 @@ fn explained<'a, R: Eprint + AllocGlobal>(
             json,
         },
         (true, false) => Request::Misused(Misuse::NoSheet),
-        (true, true) => sheet_explained(given, kinds),
+        (true, true) => explain_sheet_request(given, kinds),
     }
 }
 
 // What the arguments of `explain` ask for where they name sheets, and not all is to be said.
-fn sheet_explained<'a>(given: &ArgMatches<'a>, kinds: GivenKinds<'a>) -> Request<'a>
+fn explain_sheet_request<'a>(given: &ArgMatches<'a>, kinds: GivenKinds<'a>) -> Request<'a>
     requires all { IsFlag (one_of (codes "all") (rows_of (found_of given.now))) false }
     requires dic { is_given (codes "DIC") (rows_of (found_of given.now)) ≡ true }
     requires vec { is_given (codes "VEC") (rows_of (found_of given.now)) ≡ true }
@@ -517,7 +517,7 @@ fn sheet_explained<'a>(given: &ArgMatches<'a>, kinds: GivenKinds<'a>) -> Request
 }
 
 // What the arguments of `explain` ask for where all is to be said.
-fn all_explained<'a, R: Eprint + AllocGlobal>(
+fn explain_all_request<'a, R: Eprint + AllocGlobal>(
     rt: &R,
     given: &ArgMatches<'a>,
     kinds: GivenKinds<'a>,
@@ -559,21 +559,21 @@ fn is_given(given: &ArgMatches<'_>, name: &str) -> bool
 fn reads_input_twice(given: &ArgMatches<'_>) -> bool
     ensures { IsTrue result ↔ (1 < standard_count (rows_of (found_of given.now))) }
 {
-    standard(given, "SCD")
-        + standard(given, "DIC")
-        + standard(given, "VEC")
-        + standard(given, "A")
-        + standard(given, "B")
-        + standard(given, "FILE")
-        + standard(given, "PATH")
-        + standard(given, "BEFORE")
-        + standard(given, "AFTER")
-        + standard(given, "check")
+    count_standard_at(given, "SCD")
+        + count_standard_at(given, "DIC")
+        + count_standard_at(given, "VEC")
+        + count_standard_at(given, "A")
+        + count_standard_at(given, "B")
+        + count_standard_at(given, "FILE")
+        + count_standard_at(given, "PATH")
+        + count_standard_at(given, "BEFORE")
+        + count_standard_at(given, "AFTER")
+        + count_standard_at(given, "check")
         > 1
 }
 
 // How often an argument names standard input.
-fn standard(given: &ArgMatches<'_>, name: &str) -> usize
+fn count_standard_at(given: &ArgMatches<'_>, name: &str) -> usize
     ensures value { result ≡ standard_at name.now (rows_of (found_of given.now)) }
     ensures bound { result < 2 ^ 60 }
 {
@@ -730,7 +730,7 @@ fn out_of_memory<R: Eprint>(rt: &R) -> u8
 }
 
 // Says what is wrong with the words, or the help that they ask for.
-fn refused<R: Eprint>(rt: &R, error: &Error) -> u8
+fn say_error<R: Eprint>(rt: &R, error: &Error) -> u8
     ensures { result ≡ status_of_kind (kind_of error.now) }
 {
     if error.kind() == ErrorKind::OutOfMemory {

@@ -4,7 +4,7 @@ use Rattle.edi_explain.proofs.skipped.describe_skipped.Goals as goal
 
 pub returns : goal.returns
 returns c =
-    let found = c.left_out-left_out in (
+    let found = c.count_left_out-left_out in (
       found.result.quality,
       found.result.remarks,
       found.ensures.quality,

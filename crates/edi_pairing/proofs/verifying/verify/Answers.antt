@@ -31,13 +31,13 @@ pub returns-in_err-answer-clause-refusal : goal.returns-in_err-answer-clause-ref
 returns-in_err-answer-clause-refusal c =
     err_kept _ (Memory alloc_error) (IsVerifyRefusal c.args.schema.now (file_bytes c.args.a) (file_bytes c.args.b) c.args.file.now) c.from_residual-in_err-answer.ensures.1 tt
 
-pub judged-requires-clause-first : goal.judged-requires-clause-first
-judged-requires-clause-first c =
+pub judge-requires-clause-first : goal.judge-requires-clause-first
+judge-requires-clause-first c =
     let first = c.in_ok-first.ensures.first in
     names_long c.args.schema.now (file_bytes c.args.a) c.in_ok-first.first.names c.in_ok-first.first.accepted first.names first.plan
 
-pub judged-requires-clause-second : goal.judged-requires-clause-second
-judged-requires-clause-second c =
+pub judge-requires-clause-second : goal.judge-requires-clause-second
+judge-requires-clause-second c =
     let second = c.in_ok-first.ensures.second in
     names_long c.args.schema.now (file_bytes c.args.b) c.in_ok-first.second.names c.in_ok-first.second.accepted second.names second.plan
 

@@ -5,8 +5,8 @@ use Rattle.edi_words.specs.inner.Requests.{IsOwn}
 use Rattle.edi_words.proofs.Subcommands.{met_is_own}
 use Rattle.edi_words.proofs.words.asked.Goals as goal
 
-pub meant-requires : goal.meant-requires
-meant-requires g c =
+pub request_of-requires : goal.request_of-requires
+request_of-requires g c =
     let words = map string_bytes c.args.words.now in
     subst IsOwn (sym c.in-Ok.ensures.met) (met_is_own words (subcommand_of edicad words) c.in-Ok.ensures.taken refl)
 
@@ -14,12 +14,12 @@ pub returns-in-Ok : goal.returns-in-Ok
 returns-in-Ok g c =
     inl (
       c.in-Ok.ensures.taken,
-      subst (λ met. Means met c.meant.result) c.in-Ok.ensures.met c.meant.ensures.means,
-      subst (λ met. ReadsInputOnce met c.meant.result) c.in-Ok.ensures.met c.meant.ensures.once,
+      subst (λ met. Means met c.request_of.result) c.in-Ok.ensures.met c.request_of.ensures.means,
+      subst (λ met. ReadsInputOnce met c.request_of.result) c.in-Ok.ensures.met c.request_of.ensures.once,
     )
 
 pub returns-in-Err : goal.returns-in-Err
 returns-in-Err g c = inr (elim c.in-Err.ensures.refused [
-  | inl memory ↦ inl (c.refused.ensures ∙ ap status_of_kind memory)
-  | inr among ↦ inr (kind_of c.in-Err.error, among, c.refused.ensures)
+  | inl memory ↦ inl (c.say_error.ensures ∙ ap status_of_kind memory)
+  | inr among ↦ inr (kind_of c.in-Err.error, among, c.say_error.ensures)
 ])

@@ -5,5 +5,5 @@ use Rattle.edi_pairing.proofs.places.PlacesByName.among.Goals as goal
 
 pub loop-name-preserved : goal.loop-name-preserved
 loop-name-preserved c =
-    name_added c.as_slice-list.result.now (subst AreNames (sym c.as_slice-list.ensures.is) c.as_slice-list.ensures.names) c.loop-name.set.keys c.insert.new.self.keys c.loop-name.name-index c.borrowed.result c.name-item.result
-    c.loop-name-test.true c.loop-name.invariant c.name-item.is c.borrowed.ensures c.in_ok-insert.ensures.keys
+    name_added c.as_slice-list.result.now (subst AreNames (sym c.as_slice-list.ensures.is) c.as_slice-list.ensures.names) c.loop-name.set.keys c.insert.new.self.keys c.loop-name.name-index c.borrow_name.result c.name-item.result
+    c.loop-name-test.true c.loop-name.invariant c.name-item.is c.borrow_name.ensures c.in_ok-insert.ensures.keys
