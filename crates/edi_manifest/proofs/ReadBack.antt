@@ -2,6 +2,7 @@
 use Rattle.std.proofs.Common.{◌≡◌, ◌≢◌, ℕ, suc, ◌+◌, ◌*◌, ◌-◌, ◌<◌, ◌≤◌, true, false, eqb, List, [], ◌∷◌, ◌++◌, length, map, get_or, take, drop, Option, Some, None, MatchOption, IfSome, Result, Ok, Err, position, codes, refl, sym, ap, ◌∙◌, subst, arith}
 use Rattle.std.specs.List.{AllByRecursion, concat, position_or_len}
 use Rattle.std.proofs.lemmas.Bool.{eqb-true, eqb-false}
+use Rattle.std.proofs.lemmas.Option.{same_Some, none-some}
 use Rattle.std.proofs.lemmas.List.{append_assoc, append-nil, take_all, take-append-drop, length-append, length-take-le, get_or-take, map-append}
 use Rattle.std.proofs.lemmas.List.Elements.{recursion_from_All, All-from_get_or}
 use Rattle.std.proofs.lemmas.List.Sums.{fails_before_first, passes_at_first}
@@ -19,11 +20,13 @@ use Rattle.edi_schema.specs.Sorted.{sort_by}
 use Rattle.edi_schema.proofs.SortedLists.{IsPermutation-sort_by, NeverFalls-sort_by, sort_by-in_order}
 use Rattle.edi_delivery.specs.NameParts.{is_file_name}
 use Rattle.edi_manifest.specs.ManifestText.{IsManifestLine, digested_text, manifest_line, manifest_lines, manifest_head, manifest_body, last_line, manifest_text}
-use Rattle.edi_manifest.specs.inner.Reading.{HasNoByte}
+use Rattle.edi_manifest.specs.LineReading.{ReadsLines, ReadsUpTo}
+use Rattle.edi_manifest.specs.inner.Reading.{FindsManifestLine, FindsManifestLines, HasNoByte}
 use Rattle.edi_manifest.specs.declared.line.Digested.{Digested}
 use Rattle.edi_manifest.specs.declared.line.ManifestLine.{ManifestLine}
 use Rattle.edi_manifest.proofs.ByteOrder.{bytes_total, bytes_exact}
 use Rattle.edi_manifest.proofs.LineTexts.{name_lacks, content_of_line, content_lacks, line_is, cut_same}
+use Rattle.edi_manifest.proofs.ReadingOn.{kept_up_to}
 use Rattle.edi_manifest.proofs.SameLines.{push_same, moved_all}
 
 -- ---- the first such byte
@@ -177,6 +180,35 @@ module _ (texts : List (List ℕ)) (all : AllByRecursion IsOfLine texts) (found 
               left = same.1;
             };
           }
+
+-- what is read line by line, where each line is found, is the lines
+module _ (Reads : List ℕ → Option ManifestLine → Type 0) (finds : (content : List ℕ) (found : Option ManifestLine) → Reads content found → FindsManifestLine content found) where
+  up_to : (texts : List (List ℕ)) → AllByRecursion IsOfLine texts → (body : List ℕ) → concat texts ≡ body → (found : List ManifestLine) (rest : List ℕ)
+      → ReadsUpTo Reads body found rest → ReadUpTo texts found rest
+  up_to texts all body e found rest = kept_up_to Reads (ReadUpTo texts) step [] body found rest (none_yet texts body e)
+    where
+      step : (xs : List ManifestLine) (content behind : List ℕ) (line : ManifestLine) → HasNoByte 10 content → Reads content (Some line) → ReadUpTo texts xs (content ++ 10 ∷ behind)
+          → ReadUpTo texts (xs ++ line ∷ []) behind
+      step xs content behind line lacks reads r =
+          let n = finds_next texts all xs (content ++ 10 ∷ behind) r content behind refl lacks in
+          let same : line ≡ n.line = same_Some _ _ (finds content (Some line) reads n.line n.is n.content_of) in
+          n.more (xs ++ line ∷ []) (ap (λ l. xs ++ l ∷ []) same)
+
+  found_lines : (body : List ℕ) (found : Option (List ManifestLine)) → ReadsLines Reads body found → FindsManifestLines body found
+  found_lines body (Some found) h lines are e =
+      let all = sorted_lines lines are in
+      let r = h.read in
+      all_read (manifest_lines lines) all found r.0 (up_to (manifest_lines lines) all body e found r.0 r.1) r.2
+  found_lines body None h lines are e =
+      let all = sorted_lines lines are in
+      let r = h.read in
+      let rest = r.1 ++ 10 ∷ r.2 in
+      let n = finds_next (manifest_lines lines) all r.0 rest (up_to (manifest_lines lines) all body e r.0 rest r.3) r.1 r.2 refl r.4 in
+      absurd (none-some n.line (finds r.1 None r.5 n.line n.is n.content_of))
+
+pub lines_read : (Reads : List ℕ → Option ManifestLine → Type 0) (body : List ℕ) (found : Option (List ManifestLine)) → ReadsLines Reads body found
+    → ((content : List ℕ) (found : Option ManifestLine) → Reads content found → FindsManifestLine content found) → FindsManifestLines body found
+lines_read Reads body found h finds = found_lines Reads finds body found h
 
 -- ---- and written again
 

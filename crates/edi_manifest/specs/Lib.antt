@@ -1,3 +1,4 @@
+pub mod LineReading
 pub mod ManifestText
 pub mod Laws
 pub mod inner

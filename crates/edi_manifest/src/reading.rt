@@ -3,8 +3,11 @@
 ghost use Rattle.std.specs.Prelude.{◌≡◌, ℕ, ◌<◌, ◌==◌, List, ◌∷◌, ◌++◌, length, position};
 ghost use Rattle.std.specs.Prelude.{Some, option_map, IfOk, IfSome, MatchOption};
 ghost use Rattle.hex.specs.Hex.{encode_lower, IsBytes};
+ghost use Rattle.std.proofs.Common.{Ok};
+ghost use Rattle.std.specs.Fn.{FnReturnsAt};
 ghost use Rattle.std.specs.List.{AllByRecursion};
 ghost use Rattle.edi_manifest.specs.ManifestText.{digested_text, manifest_text, IsManifestLine, IsNoManifest};
+ghost use Rattle.edi_manifest.specs.LineReading.{ReadsLines};
 ghost use Rattle.edi_manifest.specs.inner.Reading.{HasNoByte, FindsDigested, FindsManifestLine, FindsBody, FindsManifestLines};
 
 use crate::line::{Digested, ManifestLine};
@@ -98,21 +101,34 @@ fn body_in(text: &[u8]) -> Option<&[u8]>
     Some(&behind[..behind.len() - LAST_LEN])
 }
 
-/// The lines of these bytes, or none where one of them isn't in form.
-fn lines_in(alloc: Global, body: &[u8]) -> Result<Option<Vec<ManifestLine>>, AllocError>
-    ensures finds { IfOk result (λ found. FindsManifestLines body.now (option_map (λ lines. lines.items) found)) }
-    ensures are { IfOk result (λ found. IfSome found (λ lines. AllByRecursion IsManifestLine lines.items)) }
+/// What the lines of a text are read as, up to its last line feed; or none where one of them is read as nothing.
+pub fn read_lines<L: Drop, R: Fn(&[u8]) -> Result<Option<L>, AllocError>>(
+    alloc: Global,
+    text: &[u8],
+    read: R,
+) -> Result<Option<Vec<L>>, AllocError>
+    requires { R.IsAlwaysCallable read }
+    ensures { IfOk result (λ found. ReadsLines (λ content line. FnReturnsAt R.Fn read content (Ok line)) text.now
+        (option_map (λ lines. lines.items) found)) }
 {
     let mut found = Vec::new(alloc);
-    let mut rest = body;
+    let mut rest = text;
     while let Some((content, behind)) = cut_at(rest, b'\n') {
-        match line_in(alloc, content)? {
+        match read(content)? {
             Some(line) => found.push(line)?,
             None => return Ok(None),
         }
         rest = behind;
     }
     Ok(Some(found))
+}
+
+/// The lines of these bytes, or none where one of them isn't in form.
+fn lines_in(alloc: Global, body: &[u8]) -> Result<Option<Vec<ManifestLine>>, AllocError>
+    ensures finds { IfOk result (λ found. FindsManifestLines body.now (option_map (λ lines. lines.items) found)) }
+    ensures are { IfOk result (λ found. IfSome found (λ lines. AllByRecursion IsManifestLine lines.items)) }
+{
+    read_lines(alloc, body, |content| line_in(alloc, content))
 }
 
 /// The lines of a manifest in the order of its text, or none where the text is that of no manifest.

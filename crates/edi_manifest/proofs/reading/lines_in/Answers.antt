@@ -1,28 +1,14 @@
-use Rattle.std.proofs.Common.{◌≡◌, ◌++◌, ◌∷◌, [], Option, IfSome, sym, subst, ap, ◌∙◌}
-use Rattle.std.specs.List.{AllByRecursion}
-use Rattle.std.proofs.lemmas.Option.{same_Some, none-some}
-use Rattle.edi_manifest.specs.ManifestText.{IsManifestLine, manifest_lines}
-use Rattle.edi_manifest.specs.declared.line.ManifestLine.{ManifestLine}
-use Rattle.edi_manifest.proofs.ReadBack.{sorted_lines, finds_next, all_read, one_more_line}
+use Rattle.std.proofs.Common.{rules, option_map}
+use Rattle.std.proofs.lemmas.Result.{IfOk-weaker}
+use Rattle.edi_manifest.specs.ManifestText.{IsManifestLine}
+use Rattle.edi_manifest.proofs.ReadBack.{lines_read}
+use Rattle.edi_manifest.proofs.ReadingOn.{all_lines}
 use Rattle.edi_manifest.proofs.reading.lines_in.Goals as goal
 
-pub returns-in-None-clause-finds : goal.returns-in-None-clause-finds
-returns-in-None-clause-finds c = λ lines h e.
-    let n = finds_next (manifest_lines lines) (sorted_lines lines h) c.loop-content.found.items c.loop-content.rest.now (c.loop-content.invariant.0 lines h e)
-    c.in-Some.content.now c.in-Some.behind.now c.in-Some.ensures.cut.0 c.in-Some.ensures.cut.1 in
-    absurd (none-some n.line (sym c.in-None.is ∙ c.in_ok-line.ensures.finds n.line n.is n.content_of))
-
-pub loop-content-preserved : goal.loop-content-preserved
-loop-content-preserved c = (
-  (λ lines h e.
-      let n = finds_next (manifest_lines lines) (sorted_lines lines h) c.loop-content.found.items c.loop-content.rest.now (c.loop-content.invariant.0 lines h e)
-      c.in-Some.content.now c.in-Some.behind.now c.in-Some.ensures.cut.0 c.in-Some.ensures.cut.1 in
-      let same : c.in-Some-2.line ≡ n.line = same_Some _ _ (sym c.in-Some-2.is ∙ c.in_ok-line.ensures.finds n.line n.is n.content_of) in
-      n.more c.push.new.self.items (c.in_ok-push-in-Some-2.ensures.items ∙ ap (λ l. c.loop-content.found.items ++ l ∷ []) same)),
-  subst (AllByRecursion IsManifestLine) (sym c.in_ok-push-in-Some-2.ensures.items)
-      (one_more_line c.loop-content.found.items c.in-Some-2.line c.loop-content.invariant.1
-      (subst (λ (found : Option ManifestLine). IfSome found IsManifestLine) c.in-Some-2.is c.in_ok-line.ensures.is)),
-)
-
 pub returns-clause-finds : goal.returns-clause-finds
-returns-clause-finds c = λ lines h e. all_read (manifest_lines lines) (sorted_lines lines h) c.loop-content.found.items c.loop-content.rest.now (c.loop-content.invariant.0 lines h e) c.in_default.ensures.cut
+returns-clause-finds c =
+    IfOk-weaker c.read_lines.result _ _ (λ found h. lines_read _ c.args.body.now (option_map (λ lines. lines.items) found) h (λ content line reads. search rules)) c.read_lines.ensures
+
+pub returns-clause-are : goal.returns-clause-are
+returns-clause-are c =
+    IfOk-weaker c.read_lines.result _ _ (λ found h. all_lines _ (λ lines. lines.items) IsManifestLine c.args.body.now found h (λ content line reads. search rules)) c.read_lines.ensures
