@@ -5,6 +5,7 @@ use Rattle.edi_schema.specs.Classes.{Classes}
 use Rattle.edicad_c.specs.declared.answer.Answer.{Answer}
 use Rattle.edicad_c.specs.declared.content.Content.{Content}
 use Rattle.edicad_c.specs.declared.content.Content.TheVariants.{Schema, Bytes, Pairs}
+use Rattle.edicad_c.specs.declared.given.Given.{Given}
 use Rattle.edicad_c.specs.declared.pair.Pair.{Pair}
 use Rattle.edicad_c.specs.Answers.{no_memory, wrong_call}
 
@@ -67,3 +68,14 @@ IsGiven answer bytes held given = (HoldsBytes held bytes × (given ≡ answer)) 
 -- what is in a box, if there is one
 abbrev pub in_box : Option (Box Content) → Option Content
 in_box boxed = option_map (λ content. content.value) boxed
+
+-- the handle for what is given holds the content of something that is given of the schema that the other holds, and the
+-- answer is its own; or the call was wrong
+pub record IsGivenUnder (Gives : Classes → Given → Type 0) (held out : Option Content) (answer : Answer) : Type 0 where
+  pub under : MatchSchema held
+      (λ s. (given : Given) × Gives s given × (out ≡ in_box given.content) × (answer ≡ given.answer))
+      (IsWrongCall out answer)
+
+-- the answer is one on the schema that the handle holds; or the call was wrong
+pub record IsAnsweredUnder (Gives : Classes → Answer → Type 0) (held : Option Content) (answer : Answer) : Type 0 where
+  pub under : MatchSchema held (λ s. Gives s answer) (answer ≡ wrong_call)

@@ -1,13 +1,12 @@
 //! Why a sheet is refused, or what it holds.
 
-ghost use Rattle.std.specs.Prelude.{◌≡◌, Some};
+ghost use Rattle.std.specs.Prelude.{◌≡◌};
 ghost use Rattle.edi_explain.specs.Found.{IsFound};
 ghost use Rattle.edicad_c.specs.Explains.{IsDescribed, IsExplained, IsExplanation};
 ghost use Rattle.edicad_c.specs.Held.{IsWrongCall, MatchSchema, in_box};
 
 use crate::answer::{Answer, FIRST_INPUT};
-use crate::content::Content;
-use crate::given::Given;
+use crate::given::{Given, give_under};
 use crate::handle::Handle;
 use edi_explain::{Found, describe_plan, examine, explain_sheet};
 use edi_schema::Schema;
@@ -27,24 +26,15 @@ pub extern "C" fn edicad_explain(
     ensures answer { MatchSchema schema.old.held (λ s. IsExplanation s sheet.now name.now text.new.held result)
         (IsWrongCall text.new.held result) }
 {
-    text.clear(alloc);
-    let Some(content) = schema.take(alloc) else {
-        return Answer::wrong_call();
-    };
-    let given = explanation(alloc, &content, sheet, name);
-    schema.put(content);
-    given.hand_out(alloc, text)
+    give_under(alloc, schema, text, |schema| {
+        explanation(alloc, schema, sheet, name)
+    })
 }
 
-// The same under the schema that a handle holds.
-fn explanation(alloc: Global, content: &Content, sheet: &[u8], name: &[u8]) -> Given
-    ensures { MatchSchema (Some content.now)
-        (λ s. IsExplanation s sheet.now name.now (in_box result.content) result.answer)
-        (IsWrongCall (in_box result.content) result.answer) }
+// The same under a schema.
+fn explanation(alloc: Global, schema: &Schema, sheet: &[u8], name: &[u8]) -> Given
+    ensures { IsExplanation schema.now sheet.now name.now (in_box result.content) result.answer }
 {
-    let Some(schema) = content.schema() else {
-        return Given::nothing(Answer::wrong_call());
-    };
     match examine(alloc, schema, sheet) {
         Ok(sound) => description(alloc, &sound),
         Err(found) => cause(alloc, schema, sheet, name, &found),

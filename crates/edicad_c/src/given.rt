@@ -1,14 +1,16 @@
 //! What a call gives: an answer, and perhaps something to hold.
 
 ghost use Rattle.std.specs.Prelude.{◌≡◌, None};
+ghost use Rattle.std.specs.Fn.{FnOnceReturnsAt};
 ghost use Rattle.edi_compare.specs.declared.pairing.Pairing.{Pairing};
-ghost use Rattle.edicad_c.specs.Held.{IsGiven, in_box};
+ghost use Rattle.edicad_c.specs.Held.{IsAnsweredUnder, IsGiven, IsGivenUnder, in_box};
 ghost use Rattle.edicad_c.specs.PairLists.{IsPairsHeld, pairs_of};
 
 use crate::answer::Answer;
 use crate::content::Content;
 use crate::handle::Handle;
 use crate::pair::Pair;
+use edi_schema::Schema;
 use std::alloc::Global;
 
 /// An answer, with what goes into a handle.
@@ -68,5 +70,39 @@ impl Given {
             None => handle.clear(alloc),
         }
         answer
+    }
+}
+
+/// Puts into a handle what is made of the schema that another holds, which stays there, and gives the answer.
+pub fn give_under<F: FnOnce(&Schema) -> Given>(
+    alloc: Global,
+    schema: &mut Handle,
+    handle: &mut Handle,
+    make: F,
+) -> Answer
+    requires { F.IsAlwaysCallable make }
+    ensures kept { schema.new.held ≡ schema.old.held }
+    ensures answer { IsGivenUnder (FnOnceReturnsAt F.FnOnce make) schema.old.held handle.new.held result }
+{
+    handle.clear(alloc);
+    match schema.use_schema(alloc, make) {
+        Some(given) => given.hand_out(alloc, handle),
+        None => Answer::wrong_call(),
+    }
+}
+
+/// The answer that is made of the schema that a handle holds, which stays there; or that the call was wrong.
+pub fn answer_under<F: FnOnce(&Schema) -> Answer>(
+    alloc: Global,
+    schema: &mut Handle,
+    make: F,
+) -> Answer
+    requires { F.IsAlwaysCallable make }
+    ensures kept { schema.new.held ≡ schema.old.held }
+    ensures answer { IsAnsweredUnder (FnOnceReturnsAt F.FnOnce make) schema.old.held result }
+{
+    match schema.use_schema(alloc, make) {
+        Some(answer) => answer,
+        None => Answer::wrong_call(),
     }
 }

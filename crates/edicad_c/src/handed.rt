@@ -1,10 +1,13 @@
 //! What callers do with what they were handed: bytes and pairs read, handles freed.
 
-ghost use Rattle.std.specs.Prelude.{◌≡◌, None, length};
+ghost use Rattle.std.specs.Prelude.{◌≡◌, List, [], MatchOption, None, length};
+ghost use Rattle.std.proofs.Common.{Bor};
+ghost use Rattle.std.specs.Fn.{FnOnceReturnsAt};
 ghost use Rattle.edicad_c.specs.Copies.{IsCopied};
 ghost use Rattle.edicad_c.specs.Held.{held_bytes, held_pairs};
 
 use crate::answer::Answer;
+use crate::content::Content;
 use crate::handle::Handle;
 use crate::pair::Pair;
 use std::alloc::Global;
@@ -15,12 +18,9 @@ pub extern "C" fn edicad_bytes_length(alloc: Global, bytes: &mut Handle) -> usiz
     ensures kept { bytes.new.held ≡ bytes.old.held }
     ensures length { result ≡ length (held_bytes bytes.old.held) }
 {
-    let Some(content) = bytes.take(alloc) else {
-        return 0;
-    };
-    let length = content.bytes().len();
-    bytes.put(content);
-    length
+    bytes
+        .use_content(alloc, |content| content.bytes().len())
+        .unwrap_or(0)
 }
 
 /// Copies the bytes that a handle holds, whose length the room must have.
@@ -29,11 +29,27 @@ pub extern "C" fn edicad_bytes_copy(alloc: Global, bytes: &mut Handle, room: &mu
     ensures kept { bytes.new.held ≡ bytes.old.held }
     ensures copied { IsCopied (held_bytes bytes.old.held) room.old room.new result }
 {
-    let Some(content) = bytes.take(alloc) else {
+    copy_out(alloc, bytes, Content::bytes, room)
+}
+
+// Copies a list of what a handle holds into room of its length; of an empty handle an empty one.
+fn copy_out<T: Copy, F: FnOnce(&Content) -> &[T]>(
+    alloc: Global,
+    handle: &mut Handle,
+    list: F,
+    room: &mut [T],
+) -> Answer
+    requires { F.IsAlwaysCallable list }
+    ensures kept { handle.new.held ≡ handle.old.held }
+    ensures copied { MatchOption handle.old.held (IsCopied [] room.old room.new result)
+        (λ content. (shown : Bor (List T)) × FnOnceReturnsAt F.FnOnce list content shown
+        × IsCopied shown.now room.old room.new result) }
+{
+    let Some(content) = handle.take(alloc) else {
         return copy(&[], room);
     };
-    let answer = copy(content.bytes(), room);
-    bytes.put(content);
+    let answer = copy(list(&content), room);
+    handle.put(content);
     answer
 }
 
@@ -55,12 +71,9 @@ pub extern "C" fn edicad_pairs_length(alloc: Global, pairs: &mut Handle) -> usiz
     ensures kept { pairs.new.held ≡ pairs.old.held }
     ensures length { result ≡ length (held_pairs pairs.old.held) }
 {
-    let Some(content) = pairs.take(alloc) else {
-        return 0;
-    };
-    let length = content.pairs().len();
-    pairs.put(content);
-    length
+    pairs
+        .use_content(alloc, |content| content.pairs().len())
+        .unwrap_or(0)
 }
 
 /// Copies the pairs that a handle holds, whose number the room must have.
@@ -69,12 +82,7 @@ pub extern "C" fn edicad_pairs_copy(alloc: Global, pairs: &mut Handle, room: &mu
     ensures kept { pairs.new.held ≡ pairs.old.held }
     ensures copied { IsCopied (held_pairs pairs.old.held) room.old room.new result }
 {
-    let Some(content) = pairs.take(alloc) else {
-        return copy(&[], room);
-    };
-    let answer = copy(content.pairs(), room);
-    pairs.put(content);
-    answer
+    copy_out(alloc, pairs, Content::pairs, room)
 }
 
 /// Frees the pairs that a handle holds.

@@ -1,11 +1,14 @@
 //! What a caller in C holds of the library.
 
-ghost use Rattle.std.specs.Prelude.{◌≡◌, Option, option_map, None, Some};
+ghost use Rattle.std.specs.Prelude.{◌≡◌, MatchOption, Option, option_map, None, Some};
+ghost use Rattle.std.specs.Fn.{FnOnceReturnsAt};
 ghost use Rattle.edicad_c.specs.Handles.{Owns, held_coded};
+ghost use Rattle.edicad_c.specs.Held.{MatchSchema};
 ghost use Rattle.edicad_c.specs.declared.content.Content.{Content};
 
 use crate::content::Content;
 use crate::loose::Loose;
+use edi_schema::Schema;
 use std::alloc::Global;
 use std::marker::Model;
 use std::mem::replace;
@@ -29,7 +32,7 @@ unsafe impl Send for Handle {}
 
 impl Handle {
     // A handle that holds nothing.
-    fn empty(alloc: Global) -> Handle
+    fn new(alloc: Global) -> Handle
         ensures { result.held ≡ None }
     {
         Handle {
@@ -69,7 +72,7 @@ impl Handle {
         ensures taken { option_map (λ content. content.value) result ≡ self.old.held }
         ensures empty { self.new.held ≡ None }
     {
-        let held = replace(self, Handle::empty(alloc));
+        let held = replace(self, Handle::new(alloc));
         match held.into_loose() {
             Some(loose) => Some(loose.into_box()),
             None => None,
@@ -88,6 +91,35 @@ impl Handle {
         ensures { self.new.held ≡ Some content.value }
     {
         *self = Handle::of_loose(Loose::of(content));
+    }
+
+    /// What is made of what the handle holds, which stays in it; or nothing, where it is empty.
+    pub fn use_content<T, F: FnOnce(&Content) -> T>(&mut self, alloc: Global, make: F) -> Option<T>
+        requires { F.IsAlwaysCallable make }
+        ensures kept { self.new.held ≡ self.old.held }
+        ensures made { MatchOption self.old.held (result ≡ None)
+            (λ content. MatchOption result ⊥ (FnOnceReturnsAt F.FnOnce make content)) }
+    {
+        let content = self.take(alloc)?;
+        let made = make(&content);
+        self.put(content);
+        Some(made)
+    }
+
+    /// What is made of the schema that the handle holds, which stays in it; or nothing, where it holds none.
+    pub fn use_schema<T, F: FnOnce(&Schema) -> T>(&mut self, alloc: Global, make: F) -> Option<T>
+        requires { F.IsAlwaysCallable make }
+        ensures kept { self.new.held ≡ self.old.held }
+        ensures made { MatchSchema self.old.held
+            (λ s. MatchOption result ⊥ (FnOnceReturnsAt F.FnOnce make s)) (result ≡ None) }
+    {
+        self.use_content(
+            alloc,
+            |content|
+                requires { F.IsAlwaysCallable make }
+            { content.schema().map(make) },
+        )
+        .flatten()
     }
 }
 

@@ -1,6 +1,6 @@
 //! Pairings of two sheets: found, and checked.
 
-ghost use Rattle.std.specs.Prelude.{◌≡◌, IfOk, Some, length};
+ghost use Rattle.std.specs.Prelude.{◌≡◌, IfOk, length};
 ghost use Rattle.edi_pairing.specs.UnpairedText.{unpaired_text};
 ghost use Rattle.edicad_c.specs.Held.{IsWrongCall, MatchSchema, in_box};
 ghost use Rattle.edicad_c.specs.PairLists.{IsPairsGiven, IsPairsHeld};
@@ -8,8 +8,7 @@ ghost use Rattle.edicad_c.specs.Paired.{IsPairingGiven};
 ghost use Rattle.edicad_c.specs.Verifications.{IsFaultGiven, IsVerification, IsVerifiedGiven, verify_answer};
 
 use crate::answer::{Answer, FIRST_INPUT, PAIRING_INPUT, SECOND_INPUT};
-use crate::content::Content;
-use crate::given::Given;
+use crate::given::{Given, give_under};
 use crate::handle::Handle;
 use crate::pair::pairs_of;
 use edi_compare::{Pairing, Verdict, compare};
@@ -17,6 +16,7 @@ use edi_line::FileBytes;
 use edi_pairing::{
     Compared, Unpaired, Verified, VerifyFault, compare_to_file, push_unpaired, verify,
 };
+use edi_schema::Schema;
 use std::alloc::{AllocError, Global};
 use std::borrow::CowSlice;
 
@@ -36,24 +36,15 @@ pub extern "C" fn edicad_pairing(
     ensures answer { MatchSchema schema.old.held (λ s. IsPairingGiven s first.now second.now pairing.new.held result)
         (IsWrongCall pairing.new.held result) }
 {
-    pairing.clear(alloc);
-    let Some(content) = schema.take(alloc) else {
-        return Answer::wrong_call();
-    };
-    let given = paired(alloc, &content, first, second);
-    schema.put(content);
-    given.hand_out(alloc, pairing)
+    give_under(alloc, schema, pairing, |schema| {
+        pairing_file(alloc, schema, first, second)
+    })
 }
 
-// The file of a pairing of two sheets under the schema that a handle holds.
-fn paired(alloc: Global, content: &Content, first: &[u8], second: &[u8]) -> Given
-    ensures { MatchSchema (Some content.now)
-        (λ s. IsPairingGiven s first.now second.now (in_box result.content) result.answer)
-        (IsWrongCall (in_box result.content) result.answer) }
+// The file of a pairing of two sheets under a schema.
+fn pairing_file(alloc: Global, schema: &Schema, first: &[u8], second: &[u8]) -> Given
+    ensures { IsPairingGiven schema.now first.now second.now (in_box result.content) result.answer }
 {
-    let Some(schema) = content.schema() else {
-        return Given::nothing(Answer::wrong_call());
-    };
     let first = FileBytes::Whole(CowSlice::Borrowed(first));
     let second = FileBytes::Whole(CowSlice::Borrowed(second));
     match compare_to_file(alloc, schema, first, second) {
@@ -76,24 +67,15 @@ pub extern "C" fn edicad_pair_records(
     ensures answer { MatchSchema schema.old.held (λ s. IsPairsGiven s first.now second.now pairs.new.held result)
         (IsWrongCall pairs.new.held result) }
 {
-    pairs.clear(alloc);
-    let Some(content) = schema.take(alloc) else {
-        return Answer::wrong_call();
-    };
-    let given = record_pairs(alloc, &content, first, second);
-    schema.put(content);
-    given.hand_out(alloc, pairs)
+    give_under(alloc, schema, pairs, |schema| {
+        record_pairs(alloc, schema, first, second)
+    })
 }
 
-// Which record of the second sheet each of the first is under the schema that a handle holds.
-fn record_pairs(alloc: Global, content: &Content, first: &[u8], second: &[u8]) -> Given
-    ensures { MatchSchema (Some content.now)
-        (λ s. IsPairsGiven s first.now second.now (in_box result.content) result.answer)
-        (IsWrongCall (in_box result.content) result.answer) }
+// Which record of the second sheet each of the first is under a schema.
+fn record_pairs(alloc: Global, schema: &Schema, first: &[u8], second: &[u8]) -> Given
+    ensures { IsPairsGiven schema.now first.now second.now (in_box result.content) result.answer }
 {
-    let Some(schema) = content.schema() else {
-        return Given::nothing(Answer::wrong_call());
-    };
     match compare(alloc, schema, first, second) {
         Ok(Verdict::Same(pairing)) => pairs_given(alloc, &pairing),
         Ok(Verdict::Different { line }) => Given::nothing(Answer::differs_at(line)),
@@ -129,31 +111,23 @@ pub extern "C" fn edicad_verify(
         (λ s. IsVerification s first.now second.now pairing.now name.now reason.new.held result)
         (IsWrongCall reason.new.held result) }
 {
-    reason.clear(alloc);
-    let Some(content) = schema.take(alloc) else {
-        return Answer::wrong_call();
-    };
-    let given = verification(alloc, &content, first, second, pairing, name);
-    schema.put(content);
-    given.hand_out(alloc, reason)
+    give_under(alloc, schema, reason, |schema| {
+        verification(alloc, schema, first, second, pairing, name)
+    })
 }
 
-// Whether a file states a pairing that carries under the schema that a handle holds, or why not.
+// Whether a file states a pairing that carries under a schema, or why not.
 fn verification(
     alloc: Global,
-    content: &Content,
+    schema: &Schema,
     first: &[u8],
     second: &[u8],
     pairing: &[u8],
     name: &[u8],
 ) -> Given
-    ensures { MatchSchema (Some content.now)
-        (λ s. IsVerification s first.now second.now pairing.now name.now (in_box result.content) result.answer)
-        (IsWrongCall (in_box result.content) result.answer) }
+    ensures { IsVerification schema.now first.now second.now pairing.now name.now
+        (in_box result.content) result.answer }
 {
-    let Some(schema) = content.schema() else {
-        return Given::nothing(Answer::wrong_call());
-    };
     let first = FileBytes::Whole(CowSlice::Borrowed(first));
     let second = FileBytes::Whole(CowSlice::Borrowed(second));
     match verify(alloc, schema, first, second, pairing) {

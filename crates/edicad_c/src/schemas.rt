@@ -53,7 +53,7 @@ fn load(alloc: Global, scd: &[u8], dic: &[u8], kinds: &Kinds<'_>, schema: &mut H
     ensures { IsLoaded scd.now dic.now kinds.now schema.new.held result }
 {
     schema.clear(alloc);
-    match loaded(alloc, scd, dic, kinds) {
+    match load_content(alloc, scd, dic, kinds) {
         Ok(content) => {
             schema.put(content);
             Answer::done()
@@ -63,7 +63,7 @@ fn load(alloc: Global, scd: &[u8], dic: &[u8], kinds: &Kinds<'_>, schema: &mut H
 }
 
 // The schema of two files, in a box.
-fn loaded(
+fn load_content(
     alloc: Global,
     scd: &[u8],
     dic: &[u8],

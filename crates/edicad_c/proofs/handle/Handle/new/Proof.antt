@@ -20,13 +20,13 @@ use Rattle.core.proofs.cell.Inside.{Good}
 use Rattle.std_alloc.proofs.ResultValues.{and_tt}
 use Rattle.std.proofs.raw_atomic.Walks.{proved_at}
 use Rattle.edicad_c.proofs.HandleSteps.{both, Z, Handle, alloc_tells, handle_in}
-use Rattle.edicad_c.specs.contracts.handle.Handle.empty.{ended, clauses}
-use Rattle.edicad_c.specs.contracts.handle.Handle.empty.Key.{name as #self}
-use Rattle.edicad_c.proofs.handle.Handle.empty.Statement.{statement}
-use Rattle.edicad_c.proofs.handle.Handle.empty.Code as code
+use Rattle.edicad_c.specs.contracts.handle.Handle.new.{ended, clauses}
+use Rattle.edicad_c.specs.contracts.handle.Handle.new.Key.{name as #self}
+use Rattle.edicad_c.proofs.handle.Handle.new.Statement.{statement}
+use Rattle.edicad_c.proofs.handle.Handle.new.Code as code
 
-pub empty_spec : {M : Type 1} → statement M
-empty_spec 𝓤 𝓛 𝓜 𝓡 wired =
+pub new_spec : {M : Type 1} → statement M
+new_spec 𝓤 𝓛 𝓜 𝓡 wired =
     let H = 𝓛.H in let 𝓣 = tables 𝓤 H 𝓜 𝓡 𝓡.env in let En = ended in let c = clauses 𝓛 𝓜.mem 𝓡.returns in let fn = code.function in
     let hs : Stays En.signature.params En.kept = (stay_dropped (plain (λ _. Z)) yes, tt) in
     proved_at 𝓛 En hs c 𝓜 𝓡 (Goes-dropped 𝓛 0 (plain (λ _. Z)) yes (λ κs x f. refl), tt) #self fn (code.unfolded 𝓤 H 𝓜 𝓡 wired) (λ z are.

@@ -1,0 +1,10 @@
+use Rattle.std.proofs.Common.{rules, subst}
+use Rattle.edicad_c.proofs.HeldSteps.{given_means}
+use Rattle.edicad_c.specs.Held.{in_box}
+use Rattle.edicad_c.specs.PairLists.{IsPairsGiven}
+use Rattle.edicad_c.proofs.pairings.edicad_pair_records.Goals as goal
+
+pub returns-clause-answer : goal.returns-clause-answer
+returns-clause-answer c =
+    given_means _ (λ s held answer. IsPairsGiven s c.args.first.now c.args.second.now held answer) c.args.schema.now.held c.give_under.new.handle.held c.give_under.result c.give_under.ensures.answer
+    (λ s given made. subst (λ t. IsPairsGiven t c.args.first.now c.args.second.now (in_box given.content) given.answer) made.2 (search rules))
