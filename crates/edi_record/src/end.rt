@@ -1,6 +1,6 @@
 //! An end of a link.
 
-ghost use Rattle.std.specs.Prelude.{◌≡◌, option_copied};
+ghost use Rattle.std.specs.Prelude.{◌≡◌};
 
 use crate::shared_parts::PointerStart;
 use edi_line::Text;

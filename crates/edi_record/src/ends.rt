@@ -2,7 +2,6 @@
 
 ghost use Rattle.std.specs.Prelude.{◌≡◌, ℕ, List, [], ◌++◌, ◌≤◌, ◌<◌, codes, map, length, true, false, if◌then◌else◌, Some, None, option_map, IfOk, IfErr, OnOk};
 ghost use Rattle.edi_line.specs.ZoneData.{ZoneData};
-ghost use Rattle.std.specs.Vec.{vec_len, vec_capacity};
 ghost use Rattle.edi_record.specs.Shapes.{may_have_ends};
 ghost use Rattle.edi_record.specs.Records.{is_link};
 ghost use Rattle.edi_record.specs.inner.Records.{ends};
