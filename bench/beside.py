@@ -18,6 +18,10 @@ import tempfile
 from parity import PROGRAM, files_of, profiled
 
 
+# the first line of what these answer where the plans are the same
+ANSWERS = {"verify": "pairs", "diff": "records: 0 only in A, 0 only in B, 0 changed"}
+
+
 def counted(words, answer):
     """How many instructions a run takes whose first line is this."""
     count, _, text = profiled(PROGRAM, words)
@@ -77,7 +81,7 @@ def pairs(scd, dic, vec, folder):
     least = counted(["compare", *files], "same")
     for words in (["compare", "--pairing", pairing, *files], ["verify", *files, pairing], ["diff", *files]):
         name = " ".join(word for word in words if word not in (*files, pairing))
-        count = counted(words, "pairs" if name == "verify" else "same")
+        count = counted(words, ANSWERS.get(name, "same"))
         print(f"| `{name}` / `compare` | {count / least:.2f} |", flush=True)
 
 

@@ -4,7 +4,8 @@
     checks/reach.py            writes the page, and prints how much each contract reaches
     checks/reach.py --check    fails if the page isn't what it would write, or a definition has no sentence
 
-A definition reaches those that it names, and a type of the code reaches the types of its fields. Read are the crates'
+A definition reaches those that it names, and a type of the code reaches the types of its fields and what its ghost
+fields name; but one that has a Model reaches what that shows of it, since contracts see no more. Read are the crates'
 specs/ (specs/inner/ too) and the structs and enums of their sources.
 """
 import glob
@@ -34,6 +35,9 @@ CLAIMS = [
 ]
 
 WORD = re.compile(r"[A-Za-z_][\w'-]*(?:\.[A-Za-z_][\w'-]*)*")
+MODEL = re.compile(r"^impl(?:<.*?>)? Model for (\w+)[^{]*\{\n(.*?)^\}", re.M | re.S)
+SHOWN = re.compile(r"ghost Value = (\{.*?\});", re.S)
+GHOST_FIELD = re.compile(r"\bghost \w+: (\{.*?\},)$", re.M | re.S)
 DEFINITION = re.compile(r"\s*(?:(?:pub|abbrev|unfoldable) )*(record |data )?([A-Za-z_][\w'-]*)(?=[ :])")
 
 Definition = namedtuple("Definition", "crate module name comment lines path")
@@ -63,7 +67,7 @@ class Module:
         for line in lines:
             text = line.strip()
             if text.startswith("use ") or text.startswith("pub use "):
-                self.read_import(text)
+                self.imports.update(imports_in(text))
             elif text.startswith("--"):
                 comment.append(text[2:].strip())
                 continue
@@ -92,17 +96,17 @@ class Module:
             return None
         return start[2]
 
-    def read_import(self, text):
-        parts = re.match(r"(?:pub )?use Rattle\.(\w+)\.specs\.([\w.]+?)(?:\.\{(.*)\})?(?: as (\w+))?$", text)
-        if not parts:
-            return
-        crate, module, names, alias = parts.groups()
-        if names is None:
-            self.imports[alias or module.split(".")[-1]] = (crate, module, None)
-            return
-        for name in filter(None, map(str.strip, names.split(","))):
-            own, _, other = name.partition(" as ")
-            self.imports[other or own] = (crate, module, own)
+
+def imports_in(text):
+    """The names that a line imports, each with its crate, its module and its name there, or none for a module."""
+    parts = re.match(r"(?:(?:pub|ghost) )?use Rattle\.(\w+)\.specs\.([\w.]+?)(?:\.\{(.*)\})?(?: as (\w+))?;?$", text)
+    if not parts:
+        return {}
+    crate, module, names, alias = parts.groups()
+    if names is None:
+        return {alias or module.split(".")[-1]: (crate, module, None)}
+    pairs = [name.strip().partition(" as ") for name in names.split(",") if name.strip()]
+    return {other or own: (crate, module, own) for own, _, other in pairs}
 
 
 class Base:
@@ -110,6 +114,8 @@ class Base:
 
     def __init__(self):
         self.modules, self.types, self.crates = {}, {}, crates()
+        # what the ghost fields of a type or its Model name, before it is looked up, and which types have a Model
+        self.ghosts, self.modelled = {}, set()
         for crate in self.crates:
             for path in glob.glob(os.path.join(ROOT, "crates", crate, "specs", "**", "*.antt"), recursive=True):
                 module = Module(crate, path)
@@ -119,9 +125,26 @@ class Base:
                     self.read_types(crate, os.path.relpath(path, ROOT), file.read())
 
     def read_types(self, crate, path, text):
+        imports = {}
+        for line in re.findall(r"^ghost use .*;$", text, re.M):
+            imports.update(imports_in(line))
         for start in re.finditer(r"^(?:pub(?:\(crate\))? )?(?:struct|enum) (\w+)[^{;]*\{\n(.*?)^\}", text, re.M | re.S):
             lines = [line for line in start[0].split("\n") if not line.strip().startswith(("//", "#"))]
             self.types[crate, start[1]] = Definition(crate, "src", start[1], comment_before(text[: start.start()]), lines, path)
+            fields = WORD.findall(" ".join(GHOST_FIELD.findall("\n".join(lines))))
+            self.ghosts[crate, start[1]] = [imports[word] for word in fields if word in imports]
+        for name, body in MODEL.findall(text):
+            self.read_model(crate, name, body, imports)
+
+    def read_model(self, crate, name, body, imports):
+        shown = SHOWN.search(body)
+        if not shown:
+            return
+        own = dict(imports)
+        for line in re.findall(r"^ *(ghost use .*;)$", body, re.M):
+            own.update(imports_in(line))
+        self.modelled.add((crate, name))
+        self.ghosts[crate, name] = [own[word] for word in WORD.findall(shown[1]) if word in own]
 
     def find(self, crate, module, name):
         if module.startswith("declared"):
@@ -136,10 +159,13 @@ class Base:
 
     def named_in(self, definition):
         if definition.module == "src":
-            words = set(re.findall(r"\b[A-Z]\w+", "\n".join(definition.lines)))
+            modelled = (definition.crate, definition.name) in self.modelled
+            words = set() if modelled else set(re.findall(r"\b[A-Z]\w+", "\n".join(definition.lines)))
             near = [definition.crate, *self.crates[definition.crate]]
-            return [item for (crate, name), item in self.types.items() if crate in near and name in words and item != definition
-                    and (crate == definition.crate or (definition.crate, name) not in self.types)]
+            types = [item for (crate, name), item in self.types.items() if crate in near and name in words and item != definition
+                     and (crate == definition.crate or (definition.crate, name) not in self.types)]
+            ghosts = [self.find(*imported) for imported in self.ghosts[definition.crate, definition.name]]
+            return types + [item for item in ghosts if item]
         module = self.modules[definition.crate, definition.module]
         found = []
         for word in WORD.findall("\n".join(re.sub(r'"[^"]*"', "", line) for line in definition.lines)):

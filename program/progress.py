@@ -1,6 +1,7 @@
 """What a terminal is shown of a run over many deliveries or lots: how many of how many are done."""
 import os
 import pty
+import re
 import shutil
 import threading
 import time
@@ -11,6 +12,7 @@ from manifested import two_lots
 # Nothing is shown in the first second. A pipe in place of a sheet gives it after that.
 SLOW = 1.4
 WIPE = b"\x1b[K"
+SHOWN = rb"\d+ of \d+ done(?:, \d+ with errors)?\r"
 
 
 def piped(room, path):
@@ -30,7 +32,8 @@ def piped(room, path):
 
 
 def seen(room, words, terminal="xterm", slow=None):
-    """The status, standard output, and what a terminal got from standard error."""
+    """The status, standard output, and what a terminal got from standard error. Of counts that follow one another it is
+    the first alone: a slow machine is shown more of them."""
     master, slave = pty.openpty()
     feeding = threading.Thread(target=slow or (lambda: None), daemon=True)
     feeding.start()
@@ -44,7 +47,7 @@ def seen(room, words, terminal="xterm", slow=None):
         # the other end is closed, and all was read
         pass
     os.close(master)
-    return status, out, got.replace(b"\r\n", b"\n")
+    return status, out, re.sub(b"(" + SHOWN + b")(?:" + SHOWN + b")+", rb"\1", got.replace(b"\r\n", b"\n"))
 
 
 def progress(room):

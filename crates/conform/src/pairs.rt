@@ -136,7 +136,7 @@ fn push_carries(
     pairing: &Pairing,
     text: &mut String,
 ) -> Result<(), AllocError> {
-    match accepted(alloc, schema, case.input(0).as_bytes()) {
+    match accept_sheet(alloc, schema, case.input(0).as_bytes()) {
         Ok(first) => push_carries_from(alloc, schema, &first, case, pairing, text),
         Err(fault) => push_sheet_fault(text, "first ", fault),
     }
@@ -159,7 +159,7 @@ fn push_carries_from(
     }
 }
 
-fn accepted(alloc: Global, schema: &Schema, sheet: &[u8]) -> Result<Accepted, Fault>
+fn accept_sheet(alloc: Global, schema: &Schema, sheet: &[u8]) -> Result<Accepted, Fault>
     ensures { IfOk result (HasClasses schema.now) }
 {
     accept(alloc, schema, sheet)
@@ -191,7 +191,7 @@ pub(crate) fn push_uncarried(
     text: &mut String,
 ) -> Result<(), AllocError> {
     let pairing = pairing_of(alloc, case.input(2))?;
-    match accepted(alloc, schema, case.input(0).as_bytes()) {
+    match accept_sheet(alloc, schema, case.input(0).as_bytes()) {
         Ok(first) => push_uncarried_from(alloc, schema, &first, case, &pairing, text),
         Err(fault) => push_sheet_fault(text, "first ", fault),
     }

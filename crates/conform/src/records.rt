@@ -3,7 +3,7 @@
 use crate::case::Case;
 use crate::refusals::{push_lines_fault, push_records_fault};
 use crate::text::push_bytes;
-use edi_line::{Text, zones};
+use edi_line::zones;
 use edi_record::{
     Attribute, End, Extra, Kind, Name, Point, RecordRef, SheetFault, SheetRecords, Value,
     read_sheet, records,
@@ -34,7 +34,7 @@ fn push_by_zones(alloc: Global, file: &[u8], text: &mut String) -> Result<(), Al
         Err(fault) => return push_lines_fault(text, fault),
     };
     match records(alloc, &zones) {
-        Ok(sheet) => push_list(&sheet.list, text),
+        Ok(sheet) => push_list(sheet.list(), text),
         Err(fault) => push_records_fault(text, fault),
     }
 }
@@ -42,7 +42,7 @@ fn push_by_zones(alloc: Global, file: &[u8], text: &mut String) -> Result<(), Al
 // The records that are made while the lines are read.
 fn push_by_lines(alloc: Global, file: &[u8], text: &mut String) -> Result<(), AllocError> {
     match read_sheet(alloc, file) {
-        Ok(sheet) => push_list(&sheet.list, text),
+        Ok(sheet) => push_list(sheet.list(), text),
         Err(SheetFault::Line(fault)) => push_lines_fault(text, fault),
         Err(SheetFault::Record(fault)) => push_records_fault(text, fault),
     }
@@ -80,13 +80,13 @@ fn type_text(kind: Kind) -> &'static str {
 }
 
 fn push_name(text: &mut String, name: &Name) -> Result<(), AllocError> {
-    push_name_of(text, &name.rty, &name.rid)
+    push_name_of(text, name.rty.as_slice(), name.rid.as_slice())
 }
 
-fn push_name_of(text: &mut String, rty: &Text, rid: &Text) -> Result<(), AllocError> {
-    push_bytes(text, rty.as_slice())?;
+fn push_name_of(text: &mut String, rty: &[u8], rid: &[u8]) -> Result<(), AllocError> {
+    push_bytes(text, rty)?;
     text.push_str(";")?;
-    push_bytes(text, rid.as_slice())
+    push_bytes(text, rid)
 }
 
 fn push_points(points: &[Point], text: &mut String) -> Result<(), AllocError> {
@@ -112,7 +112,7 @@ fn push_ends(ends: &[End], text: &mut String) -> Result<(), AllocError> {
         text.push_str(";")?;
         push_bytes(text, end.subset().as_slice())?;
         text.push_str(";")?;
-        push_name_of(text, end.rty(), end.rid())?;
+        push_name_of(text, end.rty().as_slice(), end.rid().as_slice())?;
         if let Some(sns) = end.sns() {
             text.push_str(" with ")?;
             push_bytes(text, sns.as_slice())?;

@@ -140,13 +140,13 @@ fn stops_at_each(
         let mut faults = [0; 4];
         faults[place] = read;
         let ran = run_over(alloc, kinds, run, files, faults)?;
-        all = all && stopped(&ran, place, read);
+        all = all && has_stopped_at(&ran, place, read);
     }
     Ok(all)
 }
 
 // Whether a run stopped at this read of this input.
-fn stopped(ran: &Ran, place: usize, read: u64) -> bool {
+fn has_stopped_at(ran: &Ran, place: usize, read: u64) -> bool {
     let mut all = ran.writes == 0;
     for (at, count) in ran.reads.iter().enumerate() {
         let wanted = if at == place { read } else { 0 };
@@ -215,9 +215,9 @@ pub(crate) fn push_writes(
     text: &mut String,
 ) -> Result<(), AllocError> {
     let sheet = case.input(0).as_bytes();
-    let file = written(alloc, setting, sheet, 0, text)?;
+    let file = write_until_fault(alloc, setting, sheet, 0, text)?;
     for taken in 0..file.out().len() {
-        let stopped = written(alloc, setting, sheet, taken as u64 + 1, text)?;
+        let stopped = write_until_fault(alloc, setting, sheet, taken as u64 + 1, text)?;
         if file.out().get(..taken) != Some(stopped.out()) {
             writeln!(text, "other bytes than the first {taken} went out")?;
         }
@@ -226,7 +226,7 @@ pub(crate) fn push_writes(
 }
 
 // What `run_canon` wrote, byte by byte, to a writer that fails at this call. Another fault is printed.
-fn written(
+fn write_until_fault(
     alloc: Global,
     setting: &Setting<'_>,
     sheet: &[u8],

@@ -7,8 +7,8 @@ ghost use Rattle.edi_answers.specs.inner.Census.{AddShares, AddsShare, StopsInOn
 
 use crate::census_texts::{text_of_all_broken, text_of_counts};
 use crate::form::AnswerForm;
-use crate::hashes::{loaded, path_of_schema, tell_fault};
-use crate::sheets::opened;
+use crate::hashes::{load_schema, path_of_schema, tell_fault};
+use crate::sheets::open_input;
 use crate::{notes, report};
 use edi_census::all_broken;
 use edi_compare::{RunFault, read_input};
@@ -46,7 +46,7 @@ pub fn explain_all<F: Folder, O: ByteOut, E: ByteOut>(
         (effects F.Folder F.Reader.ByteIn F.Sink.ByteOut F.NewFile.ByteOut folder.now folder.now)
         (written O.ByteOut out.old out.new) (written E.ByteOut err.old err.new) kinds.now files.now form result }
 {
-    match loaded(alloc, folder, kinds, files) {
+    match load_schema(alloc, folder, kinds, files) {
         Ok(loaded) => {
             notes::say(err, &loaded.note);
             count_under(alloc, folder, &loaded.schema, form, &files.sheets, out, err)
@@ -72,14 +72,14 @@ fn count_under<F: Folder, O: ByteOut, E: ByteOut>(
 {
     let mut rules = Vec::new(alloc);
     let Ok(worst) = answer_each(alloc, folder, schema, form, sheets, &mut rules, out, err) else {
-        return report::unwritten(err);
+        return report::say_unwritten(err);
     };
     let Ok(counts) = text_of_counts(alloc, form, &rules) else {
         return report::out_of_memory(err);
     };
     match put_all(out, &counts) {
         Ok(()) => worst,
-        Err(_) => report::unwritten(err),
+        Err(_) => report::say_unwritten(err),
     }
 }
 
@@ -164,8 +164,8 @@ fn all_told<F: Folder>(
     ensures err { IfErr result (λ e. SheetReadFault (inputs F.Folder F.Reader.ByteIn folder.now) path.now e
         × (rules.new.items ≡ rules.old.items)) }
 {
-    let mut sheet = opened(folder, path, 3)?;
-    let bytes = read_input(alloc, &mut sheet, 3)?;
+    let mut sheet = open_input(folder, path, 3)?;
+    let bytes: Vec<u8> = read_input(alloc, &mut sheet, 3)?;
     match told_of(alloc, schema, form, &bytes, path, rules) {
         Ok(told) => Ok(told),
         Err(error) => Err(RunFault::Memory(error)),

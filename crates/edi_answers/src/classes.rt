@@ -71,7 +71,7 @@ pub fn read_classes<R: ByteIn>(
         (λ n. (n ≡ 1) × IsTooLong (R.contents reader.old)) (λ _. ⊥) (λ _. ⊥) (λ _. ⊥) (λ _. ⊥)) }
     ensures unnoted { IfErr result (λ _. note.new.items ≡ note.old.items) }
 {
-    let classes = read_input(alloc, reader, 1)?;
+    let classes: Vec<u8> = read_input(alloc, reader, 1)?;
     match note_at(alloc, kinds, path, &classes) {
         Ok(text) => {
             *note = text;

@@ -25,7 +25,7 @@ ghost use Rattle.edi_answers.specs.Statuses.{IsListStatus, IsPageStatus, IsSheet
 use crate::form::{AnswerForm, words_in_form};
 use crate::paths::input_name;
 use crate::report;
-use crate::sheets::opened;
+use crate::sheets::open_input;
 use edi_compare::{Fault, RunFault, read_input};
 use edi_explain::{
     Found, NamedFile, describe_kinds, describe_sheet, describe_skipped, examine, explain_schema,
@@ -124,7 +124,7 @@ fn put_account<O: ByteOut, E: ByteOut>(account: &Account, out: &mut O, err: &mut
     ensures unsaid { result ≡ 4 → IsUnsaid (written O.ByteOut out.old out.new) (written E.ByteOut err.old err.new) }
 {
     if put_all(out, &account.text).is_err() {
-        return report::unwritten(err);
+        return report::say_unwritten(err);
     }
     if account.is_accepted {
         0
@@ -149,12 +149,12 @@ fn account_of<F: Folder>(
     ensures names { IfErr result (λ e. FaultHasNames e 4) }
     ensures unrefused { IfErr result (λ e. 2 < status_of_fault e) }
 {
-    let mut scd = opened(folder, files.scd, 1)?;
-    let mut dic = opened(folder, files.dic, 2)?;
-    let mut vec = opened(folder, files.vec, 3)?;
-    let scd = read_input(alloc, &mut scd, 1)?;
-    let dic = read_input(alloc, &mut dic, 2)?;
-    let vec = read_input(alloc, &mut vec, 3)?;
+    let mut scd = open_input(folder, files.scd, 1)?;
+    let mut dic = open_input(folder, files.dic, 2)?;
+    let mut vec = open_input(folder, files.vec, 3)?;
+    let scd: Vec<u8> = read_input(alloc, &mut scd, 1)?;
+    let dic: Vec<u8> = read_input(alloc, &mut dic, 2)?;
+    let vec: Vec<u8> = read_input(alloc, &mut vec, 3)?;
     match account_of_bytes(alloc, kinds, files, form, &SheetBytes { scd, dic, vec }) {
         Ok(account) => Ok(account),
         Err(error) => Err(RunFault::Memory(error)),
@@ -416,7 +416,7 @@ fn put_page<O: ByteOut, E: ByteOut>(
     };
     match put_all(out, &text) {
         Ok(()) => 0,
-        Err(_) => report::unwritten(err),
+        Err(_) => report::say_unwritten(err),
     }
 }
 

@@ -18,7 +18,7 @@ use crate::form::AnswerForm;
 use crate::hinted::hints_at;
 use crate::notes::note_of;
 use crate::reason::add_reason;
-use crate::sheets::opened;
+use crate::sheets::open_input;
 use crate::{notes, report};
 use edi_compare::{RunFault, canon_under, load_or_fault, read_input};
 use edi_files::Folder;
@@ -60,7 +60,7 @@ pub fn hash<F: Folder, O: ByteOut, E: ByteOut>(
     ensures out_stays { IsTrue (O.has_failed out.old) → IsTrue (O.has_failed out.new) }
     ensures stays { IsTrue (E.has_failed err.old) → IsTrue (E.has_failed err.new) }
 {
-    match loaded(alloc, folder, kinds, files) {
+    match load_schema(alloc, folder, kinds, files) {
         Ok(loaded) => {
             notes::say(err, &loaded.note);
             let schema = &loaded.schema;
@@ -93,7 +93,7 @@ impl Drop for NotedSchema {
 }
 
 /// The schema of two files, with the note on its kinds. Both are opened before the first is read.
-pub fn loaded<F: Folder>(
+pub fn load_schema<F: Folder>(
     alloc: Global,
     folder: &F,
     kinds: &GivenKinds<'_>,
@@ -103,10 +103,10 @@ pub fn loaded<F: Folder>(
         GivesSchema (inputs F.Folder F.Reader.ByteIn folder.now) kinds.now files.now loaded.schema loaded.note.items) }
     ensures err { IfErr result (LoadFault (inputs F.Folder F.Reader.ByteIn folder.now) kinds.now files.now) }
 {
-    let mut scd = opened(folder, files.scd, 1)?;
-    let mut dic = opened(folder, files.dic, 2)?;
-    let scd = read_input(alloc, &mut scd, 1)?;
-    let dic = read_input(alloc, &mut dic, 2)?;
+    let mut scd = open_input(folder, files.scd, 1)?;
+    let mut dic = open_input(folder, files.dic, 2)?;
+    let scd: Vec<u8> = read_input(alloc, &mut scd, 1)?;
+    let dic: Vec<u8> = read_input(alloc, &mut dic, 2)?;
     match noted_schema(alloc, kinds, files, &scd, &dic) {
         Ok(noted) => Ok(noted),
         Err(fault) => Err(fault),
@@ -144,7 +144,7 @@ fn note_on(
 ) -> Result<Vec<u8>, AllocError>
     ensures { IfOk result (λ note. IsNoteOn kinds.now scd.now (escaped_name files.now.scd.now) note.items) }
 {
-    let name = escaped(alloc, files.scd.as_bytes())?;
+    let name = escape_name(alloc, files.scd.as_bytes())?;
     note_of(alloc, kinds.codes(), scd, &name)
 }
 
@@ -207,7 +207,7 @@ fn answer_headed<F: Folder, O: ByteOut, E: ByteOut>(
             out,
             err,
         ),
-        Err(_) => report::unwritten(err),
+        Err(_) => report::say_unwritten(err),
     }
 }
 
@@ -233,7 +233,7 @@ fn answer_all<F: Folder, O: ByteOut, E: ByteOut>(
     for path in sheets {
         match answer(alloc, folder, schema, siblings, form, path, out, err) {
             Ok(status) => worst = worst.max(status),
-            Err(_) => return report::unwritten(err),
+            Err(_) => return report::say_unwritten(err),
         }
     }
     worst
@@ -389,7 +389,7 @@ fn lines_of_fault<F: Folder>(
         × (lines.items ≡ fault_line fault.now path.now ++ reason_line (escaped_name path.now) reason)) }
 {
     let mut lines = line_of_fault(alloc, fault, path.as_bytes())?;
-    let name = escaped(alloc, path.as_bytes())?;
+    let name = escape_name(alloc, path.as_bytes())?;
     add_reason(&mut lines, folder, fault, path, &name)?;
     Ok(lines)
 }
@@ -403,7 +403,7 @@ pub fn digest_of<F: Folder>(
 ) -> Result<[u8; 32], RunFault>
     ensures { IsAnswerOf (inputs F.Folder F.Reader.ByteIn folder.now) schema.now path.now result }
 {
-    let mut sheet = opened(folder, path, 3)?;
+    let mut sheet = open_input(folder, path, 3)?;
     let canonical = canon_under(alloc, schema, &mut sheet)?;
     Ok(Sha256::digest(&canonical))
 }
@@ -472,10 +472,10 @@ pub fn line_of_path(alloc: Global, path: &str, words: &[u8]) -> Result<Vec<u8>, 
 pub fn line_of_digest(alloc: Global, digest: &[u8], name: &[u8]) -> Result<Vec<u8>, AllocError>
     ensures { IfOk result (λ line. line.items ≡ digest_line digest.now name.now) }
 {
-    let mut line = marked(alloc, name)?;
+    let mut line = escape_mark(alloc, name)?;
     line.extend_from_slice(hex::encode(alloc, digest)?.as_bytes())?;
     line.extend_from_slice(b"  ")?;
-    line.extend_from_slice(&escaped(alloc, name)?)?;
+    line.extend_from_slice(&escape_name(alloc, name)?)?;
     line.push(b'\n')?;
     Ok(line)
 }
@@ -484,8 +484,8 @@ pub fn line_of_digest(alloc: Global, digest: &[u8], name: &[u8]) -> Result<Vec<u
 fn line_of_fault(alloc: Global, fault: &RunFault, name: &[u8]) -> Result<Vec<u8>, AllocError>
     ensures { IfOk result (λ line. line.items ≡ fault_line fault.now name.now) }
 {
-    let mut line = marked(alloc, name)?;
-    line.extend_from_slice(&escaped(alloc, name)?)?;
+    let mut line = escape_mark(alloc, name)?;
+    line.extend_from_slice(&escape_name(alloc, name)?)?;
     line.extend_from_slice(b": ")?;
     line.extend_from_slice(&line_of_sheet(alloc, fault)?)?;
     Ok(line)
@@ -500,8 +500,8 @@ pub fn push_named(
 ) -> Result<(), AllocError>
     ensures { OnOk result (lines.new.items ≡ lines.old.items ++ named_line name.now words.now) }
 {
-    lines.extend_from_slice(&marked(alloc, name)?)?;
-    lines.extend_from_slice(&escaped(alloc, name)?)?;
+    lines.extend_from_slice(&escape_mark(alloc, name)?)?;
+    lines.extend_from_slice(&escape_name(alloc, name)?)?;
     lines.extend_from_slice(b": ")?;
     lines.extend_from_slice(words)?;
     lines.push(b'\n')?;
@@ -509,7 +509,7 @@ pub fn push_named(
 }
 
 /// A backslash where the name has an escape, and else nothing.
-pub fn marked(alloc: Global, name: &[u8]) -> Result<Vec<u8>, AllocError>
+pub fn escape_mark(alloc: Global, name: &[u8]) -> Result<Vec<u8>, AllocError>
     ensures { IfOk result (λ mark. mark.items ≡ mark_of name.now) }
 {
     if has_escape(name) {
@@ -539,7 +539,7 @@ fn is_escaped(byte: u8) -> bool
 }
 
 /// A name with its escapes.
-pub fn escaped(alloc: Global, name: &[u8]) -> Result<Vec<u8>, AllocError>
+pub fn escape_name(alloc: Global, name: &[u8]) -> Result<Vec<u8>, AllocError>
     ensures { IfOk result (λ text. text.items ≡ escaped_name name.now) }
 {
     let mut text = Vec::with_capacity(alloc, name.len())?;

@@ -9,10 +9,10 @@ ghost use Rattle.edi_answers.specs.SheetRuns.{FirstOfFourMissing, OfPair, PairFi
 ghost use Rattle.edi_answers.specs.PairInputs.{ArePairBytes, ArePairInputs, ArePairReaders, AreUnread, IsLoadedPair, IsOpenedAt, IsReadAt, IsUnreadAt};
 
 use crate::classes::read_classes;
-use crate::sheets::opened;
-use edi_compare::{RunFault, load_or_fault, read_input, read_input_pieces};
+use crate::sheets::open_input;
+use edi_compare::{RunFault, load_or_fault, read_input};
 use edi_files::Folder;
-use edi_line::Pieces;
+use edi_line::{Gathering, Pieces};
 use edi_schema::Schema;
 use edi_words::{GivenKinds, PairFiles};
 use std::alloc::Global;
@@ -102,10 +102,10 @@ pub fn load_pair_and_file<F: Folder>(
         note.old.items note.new.items) }
 {
     let readers = open_files(folder, files)?;
-    let mut file = opened(folder, pairing, 5)?;
+    let mut file = open_input(folder, pairing, 5)?;
     let pair = with_classes(alloc, folder, kinds, files, readers, note)?;
     let bytes = read_pair(alloc, folder, files, pair)?;
-    let file = read_at(alloc, folder, pairing, &mut file, 5)?;
+    let file: Vec<u8> = read_at(alloc, folder, pairing, &mut file, 5)?;
     let loaded = load(alloc, kinds, bytes)?;
     Ok((loaded, file))
 }
@@ -122,10 +122,10 @@ fn open_files<F: Folder>(
     ensures names { IfErr result (λ e. FaultHasNames e 5) }
     ensures unread { IfErr result (λ e. 2 < status_of_fault e) }
 {
-    let scd = opened(folder, files.scd, 1)?;
-    let dic = opened(folder, files.dic, 2)?;
-    let first = opened(folder, files.first, 3)?;
-    let second = opened(folder, files.second, 4)?;
+    let scd = open_input(folder, files.scd, 1)?;
+    let dic = open_input(folder, files.dic, 2)?;
+    let first = open_input(folder, files.first, 3)?;
+    let second = open_input(folder, files.second, 4)?;
     Ok(PairReaders {
         scd,
         dic,
@@ -188,9 +188,9 @@ fn read_pair<F: Folder>(
         mut first,
         mut second,
     } = pair;
-    let dic = read_at(alloc, folder, files.dic, &mut dic, 2)?;
-    let first = read_pieces_at(alloc, folder, files.first, &mut first, 3)?;
-    let second = read_pieces_at(alloc, folder, files.second, &mut second, 4)?;
+    let dic: Vec<u8> = read_at(alloc, folder, files.dic, &mut dic, 2)?;
+    let first: Pieces = read_at(alloc, folder, files.first, &mut first, 3)?;
+    let second: Pieces = read_at(alloc, folder, files.second, &mut second, 4)?;
     Ok(PairBytes {
         classes,
         dic,
@@ -214,33 +214,19 @@ fn load(alloc: Global, kinds: &GivenKinds<'_>, bytes: PairBytes) -> Result<Loade
     })
 }
 
-// All bytes of the input that was opened for a path.
-fn read_at<F: Folder>(
+// All bytes of the input that was opened for a path: in a list, or in pieces of which each is let go when its lines are
+// read.
+fn read_at<F: Folder, G: Gathering + Drop>(
     alloc: Global,
     folder: &F,
     path: &str,
     reader: &mut F::Reader,
     input: u8,
-) -> Result<Vec<u8>, RunFault>
+) -> Result<G, RunFault>
     requires { IsOpenedAt (inputs F.Folder F.Reader.ByteIn folder.now) F.Reader.ByteIn path.now reader.old }
     ensures read { IfOk result (λ bytes.
-        IsReadAt (inputs F.Folder F.Reader.ByteIn folder.now) path.now bytes.items) }
+        IsReadAt (inputs F.Folder F.Reader.ByteIn folder.now) path.now (G.bytes bytes)) }
     ensures err { IfErr result (IsUnreadAt (inputs F.Folder F.Reader.ByteIn folder.now) path.now input) }
 {
     read_input(alloc, reader, input)
-}
-
-// The same in pieces, of which each is let go when its lines are read.
-fn read_pieces_at<F: Folder>(
-    alloc: Global,
-    folder: &F,
-    path: &str,
-    reader: &mut F::Reader,
-    input: u8,
-) -> Result<Pieces, RunFault>
-    requires { IsOpenedAt (inputs F.Folder F.Reader.ByteIn folder.now) F.Reader.ByteIn path.now reader.old }
-    ensures read { IfOk result (IsReadAt (inputs F.Folder F.Reader.ByteIn folder.now) path.now) }
-    ensures err { IfErr result (IsUnreadAt (inputs F.Folder F.Reader.ByteIn folder.now) path.now input) }
-{
-    read_input_pieces(alloc, reader, input)
 }

@@ -52,7 +52,7 @@ pub fn answer<F: Folder, O: ByteOut, E: ByteOut>(
 {
     match outcome {
         Outcome::Fault(fault) if status_of_fault(fault) > REFUSED_STATUS => {
-            warned(alloc, folder, err, fault, paths)
+            say_fault(alloc, folder, err, fault, paths)
         }
         _ => say(alloc, out, err, form, outcome, paths),
     }
@@ -85,7 +85,7 @@ fn say<O: ByteOut, E: ByteOut>(
     };
     match put_all(out, &text) {
         Ok(()) => status_of(outcome),
-        Err(_) => unwritten(err),
+        Err(_) => say_unwritten(err),
     }
 }
 
@@ -107,7 +107,7 @@ fn text_by_paths(
 
 /// Says on `err` what a fault is, and why a path can't be read or written where the folder gives a reason. Gives the
 /// exit status: that of the fault, or 5 if there is no memory for the lines.
-pub fn warned<F: Folder, E: ByteOut>(
+pub fn say_fault<F: Folder, E: ByteOut>(
     alloc: Global,
     folder: &F,
     err: &mut E,
@@ -173,7 +173,7 @@ pub fn out_of_memory<E: ByteOut>(err: &mut E) -> u8
 }
 
 /// Says that standard output has failed.
-pub fn unwritten<E: ByteOut>(err: &mut E) -> u8
+pub fn say_unwritten<E: ByteOut>(err: &mut E) -> u8
     ensures status { result ≡ 4 }
     ensures text { Warns (written E.ByteOut err.old err.new) (ended (codes "cannot write standard output")) }
     ensures stays { IsTrue (E.has_failed err.old) → IsTrue (E.has_failed err.new) }
@@ -184,7 +184,7 @@ pub fn unwritten<E: ByteOut>(err: &mut E) -> u8
 
 /// Says why words can't be meant, and of codes that are bad what was given. Gives the exit status: 3, or 5 if there is
 /// no memory for the lines.
-pub fn misused<E: ByteOut>(alloc: Global, err: &mut E, misuse: Misuse<'_>) -> u8
+pub fn say_misuse<E: ByteOut>(alloc: Global, err: &mut E, misuse: Misuse<'_>) -> u8
     ensures { ((result ≡ 3) × Warns (written E.ByteOut err.old err.new) (misuse_lines misuse.entry))
         ⊎ ((result ≡ 5) × IsTrue (shows_words misuse.entry) × LacksMemory (written E.ByteOut err.old err.new)) }
 {

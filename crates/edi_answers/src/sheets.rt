@@ -56,9 +56,9 @@ pub fn check<F: Folder>(
         HasNoteOf (inputs F.Folder F.Reader.ByteIn folder.now) kinds.now files.now.scd.now (status_of_fault e)
         note.old.items note.new.items) }
 {
-    let mut scd = opened(folder, files.scd, 1)?;
-    let mut dic = opened(folder, files.dic, 2)?;
-    let mut vec = opened(folder, files.vec, 3)?;
+    let mut scd = open_input(folder, files.scd, 1)?;
+    let mut dic = open_input(folder, files.dic, 2)?;
+    let mut vec = open_input(folder, files.vec, 3)?;
     let classes = read_classes(alloc, kinds, files.scd, &mut scd, note)?;
     let mut kept = Kept::new(&classes);
     run_check(alloc, kinds.kinds(), &mut kept, &mut dic, &mut vec)
@@ -190,7 +190,7 @@ fn compare_to_file<F: Folder>(
 }
 
 /// An input that is there to read.
-pub fn opened<F: Folder>(folder: &F, path: &str, input: u8) -> Result<F::Reader, RunFault>
+pub fn open_input<F: Folder>(folder: &F, path: &str, input: u8) -> Result<F::Reader, RunFault>
     ensures ok { IfOk result (λ file.
         Gives (inputs F.Folder F.Reader.ByteIn folder.now) path.now (F.Reader.contents file)) }
     ensures device { IfOk result (λ file.

@@ -3,7 +3,7 @@ ghost use Rattle.std.specs.Prelude.{◌≡◌, IfErr, IfOk};
 ghost use Rattle.edi_answers.specs.Effects.{inputs};
 ghost use Rattle.edi_answers.specs.WholeInputs.{WholeInputFault, OfWholeInput};
 
-use crate::sheets::opened;
+use crate::sheets::open_input;
 use edi_compare::{RunFault, read_input};
 use edi_files::Folder;
 use std::alloc::Global;
@@ -14,6 +14,6 @@ pub fn read_whole<F: Folder>(alloc: Global, folder: &F, path: &str) -> Result<Ve
         OfWholeInput (inputs F.Folder F.Reader.ByteIn folder.now) path.now (λ b. bytes.items ≡ b)) }
     ensures err { IfErr result (WholeInputFault (inputs F.Folder F.Reader.ByteIn folder.now) path.now) }
 {
-    let mut reader = opened(folder, path, 1)?;
+    let mut reader = open_input(folder, path, 1)?;
     read_input(alloc, &mut reader, 1)
 }

@@ -5,7 +5,7 @@ use Rattle.edi_line.specs.LineRules.{BreaksLineRule, IsZonesOf}
 use Rattle.edi_line.specs.Refusal.{IsUnbroken}
 use Rattle.edi_line.proofs.ZonesSaid.{zones_of_one}
 use Rattle.edi_record.specs.RecordRules.{BreaksRecordRule}
-use Rattle.edi_record.specs.declared.sheet.Sheet.{Sheet}
+use Rattle.edi_record.specs.Records.{SheetData}
 use Rattle.edi_schema.specs.Classes.{Classes}
 use Rattle.edi_plan.specs.Plans.{PlanData}
 use Rattle.edi_plan.specs.ReferenceRules.{BreaksReferenceRule}
@@ -28,7 +28,7 @@ none_broken B list h none r p b = go (h.all r p b)
     go (k, _, lt, _, _) = omega (arith, subst (λ (l : List BrokenRule). k < length l) none lt)
 
 module _ (s : Classes) (b : List ℕ) where
-  one_list : (sheet other : Sheet) → IsSheetOf b sheet → IsSheetOf b other → sheet.list ≡ other.list
+  one_list : (sheet other : SheetData) → IsSheetOf b sheet → IsSheetOf b other → sheet.list ≡ other.list
   one_list sheet other h g = (reading_is_one.sheets b sheet other h g).1
 
   module _ (rule at : ℕ) where
@@ -47,7 +47,7 @@ module _ (s : Classes) (b : List ℕ) where
     only_records lines zones are is r p (of_topology plan held z g) = absurd (held.0.1 zones are rule at is)
     only_records lines zones are is r p (of_objects plan held z g) = absurd (held.0.0.1 zones are rule at is)
 
-    only_references : RecordsHold s b → (sheet : Sheet) → IsSheetOf b sheet → BreaksReferenceRule s sheet.list rule at
+    only_references : RecordsHold s b → (sheet : SheetData) → IsSheetOf b sheet → BreaksReferenceRule s sheet.list rule at
         → (r p : ℕ) → Breaks s b r p → BreaksReferenceRule s sheet.list r p
     only_references records sheet states is r p (of_lines g) = absurd (records.0 r p g)
     only_references records sheet states is r p (of_records others held z g) = absurd (records.1 others z r p g)
@@ -89,7 +89,7 @@ module _ (s : Classes) (b : List ℕ) where
   all_of_records list lines zones are h some = phase (BreaksRecordRule zones) list h some
       (λ r p g. of_records zones lines are g) (λ rule at is r p g. only_records rule at lines zones are is r p g)
 
-  pub all_of_references : (list : List BrokenRule) → RecordsHold s b → (sheet : Sheet) → IsSheetOf b sheet
+  pub all_of_references : (list : List BrokenRule) → RecordsHold s b → (sheet : SheetData) → IsSheetOf b sheet
       → AreAllBroken (BreaksReferenceRule s sheet.list) list → (list ≡ [] → ⊥) → AreAllBroken (Breaks s b) list
   all_of_references list records sheet states h some = phase (BreaksReferenceRule s sheet.list) list h some
       (λ r p g. of_references sheet records states g) (λ rule at is r p g. only_references rule at records sheet states is r p g)

@@ -102,7 +102,8 @@ fn broken_in_sheet(
     ensures { IfOk result (λ list. AreAllBroken (Breaks schema.now bytes.now) list.items) }
 {
     let sheet = sheet_of(alloc, schema, bytes)?;
-    let list = broken_references(alloc, schema, &sheet.list)?;
+    sheet.keeps();
+    let list = broken_references(alloc, schema, sheet.list())?;
     if !is_none(&list) {
         return Ok(list);
     }

@@ -23,7 +23,7 @@ const NEITHER: &[u8] = b"neither a manifest nor a list of digests";
 /// Writes which digests of two inputs are new, gone or changed, and how many. Gives 0 where none is, and else 1; 2
 /// where an input states no digests, 4 where one can't be read or `out` fails, and 5 where memory runs out, which `err`
 /// says. The second input is opened once the first is read.
-pub fn changed<F: Folder, O: ByteOut, E: ByteOut>(
+pub fn tell_changes_between<F: Folder, O: ByteOut, E: ByteOut>(
     alloc: Global,
     folder: &F,
     before: &str,

@@ -18,7 +18,7 @@ use crate::lacking::{Lack, read_at, tell_lack};
 use crate::list::ListLine;
 use crate::reading::read_list;
 use crate::verdict::{Said, at_least, say_verdict};
-use edi_answers::hashes::{digest_of, loaded, path_of_schema, tell_fault};
+use edi_answers::hashes::{digest_of, load_schema, path_of_schema, tell_fault};
 use edi_answers::{notes, report};
 use edi_compare::RunFault;
 use edi_files::Folder;
@@ -89,7 +89,7 @@ fn hold_under<F: Folder, O: ByteOut, E: ByteOut>(
         (effects F.Folder F.Reader.ByteIn F.Sink.ByteOut F.NewFile.ByteOut folder.now folder.now) kinds.now files.now
         lines.now (written O.ByteOut out.old out.new) (written E.ByteOut err.old err.new) result }
 {
-    match loaded(alloc, folder, kinds, files) {
+    match load_schema(alloc, folder, kinds, files) {
         Ok(loaded) => {
             notes::say(err, &loaded.note);
             let checker = LineChecker {

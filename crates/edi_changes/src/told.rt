@@ -7,7 +7,7 @@ ghost use Rattle.edi_answers.specs.Statuses.{Answers, IsUnsaid, PrintsFirst};
 ghost use Rattle.edi_changes.specs.Told.{change_line, changes_text, count_of, counts_line, fate_number, is_same, status_of_changes, word_line};
 
 use crate::changes::{Change, Fate};
-use edi_answers::hashes::{escaped, marked};
+use edi_answers::hashes::{escape_mark, escape_name};
 use edi_answers::report;
 use edi_line::{ByteOut, push_number};
 use edi_write::put_all;
@@ -80,9 +80,9 @@ fn push_line(
 ) -> Result<(), AllocError>
     ensures { OnOk result (text.new.items ≡ text.old.items ++ word_line word.now subject.now) }
 {
-    text.extend_from_slice(&marked(alloc, subject)?)?;
+    text.extend_from_slice(&escape_mark(alloc, subject)?)?;
     text.extend_from_slice(word)?;
-    text.extend_from_slice(&escaped(alloc, subject)?)?;
+    text.extend_from_slice(&escape_name(alloc, subject)?)?;
     text.push(b'\n')?;
     Ok(())
 }
@@ -136,6 +136,6 @@ pub fn put_told<O: ByteOut, E: ByteOut>(told: &Told, out: &mut O, err: &mut E) -
 {
     match put_all(out, &told.text) {
         Ok(()) => told.status,
-        Err(_) => report::unwritten(err),
+        Err(_) => report::say_unwritten(err),
     }
 }

@@ -83,6 +83,6 @@ pub(crate) fn say_verdict<O: ByteOut, E: ByteOut>(
     };
     match put_all(out, &text) {
         Ok(()) => Said::Whole(status_of_verdict(is_same)),
-        Err(_) => Said::CutOff(report::unwritten(err)),
+        Err(_) => Said::CutOff(report::say_unwritten(err)),
     }
 }

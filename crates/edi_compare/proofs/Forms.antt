@@ -1,14 +1,11 @@
 -- The layout of an accepted sheet is canonical and states the plan of the sheet.
-use Rattle.std.proofs.Common.{◌≡◌, ◌∙◌, sym, subst, ap, refl, ℕ, ◌<◌, ◌≤◌, ◌^◌, true, List, [], ◌∷◌, map, length, ◌&&◌, arith}
-use Rattle.std.specs.List.{AllByRecursion, list_all}
-use Rattle.std.proofs.lemmas.List.{length-map}
+use Rattle.std.proofs.Common.{◌≡◌, ◌∙◌, sym, subst, refl, ℕ, ◌<◌, ◌≤◌, ◌^◌, List, map, length, arith}
 use Rattle.edi_line.specs.Refusal.{IsUnbroken}
-use Rattle.edi_record.specs.RecordLayout.{HasPrintableLetters, FollowsRules, settled_end, settled_record}
+use Rattle.edi_record.specs.RecordLayout.{settled_record}
 use Rattle.edi_record.specs.RecordLayout as records
-use Rattle.edi_record.specs.Shapes.{is_in_shape, may_have_points, may_have_ends}
 use Rattle.edi_record.specs.Sound.{IsSoundFile}
 use Rattle.edi_record.specs.declared.record.Record.{Record}
-use Rattle.edi_record.specs.declared.sheet.Sheet.{Sheet}
+use Rattle.edi_record.specs.Records.{SheetData}
 use Rattle.edi_record.proofs.Printable.{sheet_printable}
 use Rattle.edi_record.proofs.ReadRecords.{sheet_read}
 use Rattle.edi_record.proofs.SheetStated.{sheet_stated}
@@ -54,15 +51,6 @@ pub record IsLayoutOf (s : Classes) (b c : List ℕ) : Type 0 where
   pub are_labels : AreLabels s plan labels
   pub laid_out : c ≡ layout s (arranged s labels plan)
 
--- ---- the records as they are read
-
-settled_shape : (s : records.Letters) (r : Record) → is_in_shape (settled_record s r) ≡ is_in_shape r
-settled_shape s r = ap (λ n. may_have_points r.kind (length r.points) && may_have_ends r.kind n) (length-map r.ends settled_end)
-
-settled_in_shape : (s : records.Letters) (rs : List Record) → AllByRecursion FollowsRules rs → list_all is_in_shape (map (settled_record s) rs) ≡ true
-settled_in_shape s [] all = refl
-settled_in_shape s (r ∷ rs) all = rw (settled_shape s r, all.0.shape) (settled_in_shape s rs all.1)
-
 -- ---- the file of the records that are written of a plan
 
 module _ (s : Classes) (q : PlanData) (keeps : IsSchema s) (under : IsPlanUnder s q) (can : CanBePrinted q.cse (written_records s q)) where
@@ -78,12 +66,10 @@ module _ (s : Classes) (q : PlanData) (keeps : IsSchema s) (under : IsPlanUnder 
   sound : IsSoundFile (letters s) q.cse written
   sound = sheet_sound (letters s) q.cse written (letters_printable s keeps) can.set can.records can.lines can.rules few
 
-  abbrev sheet : Sheet
+  abbrev sheet : SheetData
   sheet = record {
     cse = q.cse;
     list = map (settled_record (letters s)) written;
-    few = omega (arith, length-map written (settled_record (letters s)), few);
-    in_shape = settled_in_shape (letters s) written can.rules;
   }
 
   states_sheet : IsSheetOf file sheet
@@ -115,19 +101,19 @@ module _ (s : Classes) (b c : List ℕ) (f : IsLayoutOf s b c) (keeps : IsSchema
   under : IsPlanUnder s p
   under = plan_under s b p keeps f.accepted f.states
 
-  under' : IsPlanUnder s q
+  pub under' : IsPlanUnder s q
   under' = under_arranged s p f.labels under f.are_labels
 
   joined : IsJoined p
   joined = plan_joined s b p f.accepted f.states
 
-  same : Same s p q
+  pub same : Same s p q
   same = (new_place f.labels p, turned_at f.labels.turned, carries_arranged s p f.labels f.are_labels)
 
   topology : IsUnbroken (BreaksTopologyRule p)
   topology = topology_hold s b f.accepted p f.states
 
-  printable : CanBePrinted q.cse (written_records s q)
+  pub printable : CanBePrinted q.cse (written_records s q)
   printable =
       let held = records_hold s b f.accepted in
       let read = sheet_read b f.states.1.0 f.states.0 short f.states.1.1 held.0 f.states.1.2 (held.1 f.states.1.0 f.states.1.1) in

@@ -6,6 +6,7 @@ use Rattle.edi_compare.specs.Canonical.{IsCanonical}
 use Rattle.edi_compare.specs.Headline.{IsFormOf}
 use Rattle.edi_compare.specs.PlanOfFile.{StateSame}
 use Rattle.edi_compare.specs.Sameness.{DecidesSameness}
+use Rattle.edi_compare.proofs.FormsThere.{form_there}
 use Rattle.edi_compare.proofs.Headline.{decide, equal_if_same}
 use Rattle.edi_compare.proofs.Reading.{reading_is_one}
 
@@ -23,6 +24,7 @@ module _ (s : Classes) (keeps : IsSchema s) where
 
   pub forms_decide : DecidesSameness s (IsFormOf s)
   forms_decide = record {
+    there = λ b names bytes short accepted. form_there s keeps names b bytes short accepted;
     accepted = λ b c f. f.accepted;
     sound = λ b c f. f.canonical.accepted;
     same = λ b c f. f.same;

@@ -1,7 +1,7 @@
 -- A canonical sheet that states the plan of a sheet is the only one.
 use Rattle.std.proofs.Common.{◌≡◌, ◌↔◌, ℕ, Bool, List, sym, ap, ◌∙◌, subst}
 use Rattle.edi_line.specs.Refusal.{IsUnbroken}
-use Rattle.edi_record.specs.declared.sheet.Sheet.{Sheet}
+use Rattle.edi_record.specs.Records.{SheetData}
 use Rattle.edi_schema.specs.Classes.{Classes, IsSchema}
 use Rattle.edi_schema.proofs.Paired.{paired}
 use Rattle.edi_plan.specs.Plans.{PlanData}
@@ -21,6 +21,7 @@ use Rattle.edi_compare.specs.Rules.{LinesHold, RecordsHold, ReferencesHold, IsAc
 use Rattle.edi_compare.specs.Rules.Breaks.{of_lines, of_records, of_references, of_topology, of_objects}
 use Rattle.edi_compare.specs.Canonical.{IsCanonical}
 use Rattle.edi_compare.specs.Laws.{ReadingIsOne, IsAcceptedPlan, SameIsEquivalence}
+use Rattle.edi_compare.proofs.Phases.{sheet_whole}
 
 -- where nothing is broken, each phase holds
 
@@ -31,7 +32,7 @@ module _ (s : Classes) (b : List ℕ) (accepted : IsAccepted s b) where
   pub records_hold : RecordsHold s b
   records_hold = (lines_hold, λ zones z rule at broken. accepted rule at (of_records zones lines_hold z broken))
 
-  pub references_hold : (sheet : Sheet) → IsSheetOf b sheet → IsUnbroken (BreaksReferenceRule s sheet.list)
+  pub references_hold : (sheet : SheetData) → IsSheetOf b sheet → IsUnbroken (BreaksReferenceRule s sheet.list)
   references_hold sheet is rule at broken = accepted rule at (of_references sheet records_hold is broken)
 
   references_hold_all : ReferencesHold s b
@@ -49,7 +50,7 @@ plan_joined s b p accepted states = plans_joined s states.0 p states.2 (referenc
 pub plan_under : (s : Classes) (b : List ℕ) (p : PlanData) → IsSchema s → IsAccepted s b → IsPlanOfFile s b p → IsPlanUnder s p
 plan_under s b p keeps accepted states = record {
   paired = paired s keeps;
-  whole = plans_whole s states.0 p states.2 (references_hold s b accepted states.0 states.1);
+  whole = plans_whole s states.0 p states.2 (sheet_whole s b (records_hold s b accepted) states.0 states.1) (references_hold s b accepted states.0 states.1);
   agrees = plans_agreeing s states.0 p states.2;
 }
 

@@ -14,7 +14,7 @@ use Rattle.edi_line.proofs.ZonesFound.{zones_of}
 use Rattle.edi_line.proofs.KnownFiles.{first_fault, refused_as}
 use Rattle.edi_record.specs.Rows.{the_node}
 use Rattle.edi_record.specs.Texts.{pointer_text, point_text}
-use Rattle.edi_record.specs.declared.sheet.Sheet.{Sheet}
+use Rattle.edi_record.specs.Records.{SheetData}
 use Rattle.edi_record.specs.inner.Records.{set_after, value_after, attributes, sns_after, ends, zones_placed}
 use Rattle.edi_record.specs.inner.Texts.{pointer, point_in, count}
 use Rattle.edi_schema.specs.Classes.{IsSchema}
@@ -44,8 +44,8 @@ classes_keep = schema_as node_classes (record { few = refl; letters = refl; in_o
 
 -- ---- the sheet of one node
 
-abbrev the_sheet : Sheet
-the_sheet = record { cse = Some (codes "IRV"); list = the_node ∷ []; few = lit≤ tt; in_shape = refl }
+abbrev the_sheet : SheetData
+the_sheet = record { cse = Some (codes "IRV"); list = the_node ∷ [] }
 
 sheet_lines : first_fault (seen_in []) 1 (readings_of node_sheet) ≡ None
 unfolding reading_of has_head
@@ -130,8 +130,8 @@ empty_plan = record { cse = None; list = [] }
 abbrev empty_labels : Labelling
 empty_labels = record { numbers = []; turned = []; others = []; nodes = []; arcs = []; faces = []; objects = []; links = [] }
 
-abbrev no_records : Sheet
-no_records = record { cse = None; list = []; few = lit≤ tt; in_shape = refl }
+abbrev no_records : SheetData
+no_records = record { cse = None; list = [] }
 
 empty_lines : first_fault (seen_in []) 1 (readings_of empty_sheet) ≡ None
 unfolding reading_of has_head

@@ -28,7 +28,7 @@ use Rattle.edi_compare.proofs.KnownSheetsTests.{below, all_below, only_one, poin
 use Rattle.edi_compare.proofs.KnownSheetsReferences.{references_as}
 use Rattle.edi_compare.proofs.KnownSheetsSchema.{arc_schema}
 use Rattle.edi_compare.proofs.KnownSheetsStated.{arc_sheet, arc_states_sheet, arc_records_hold, arc_states, exchanged_records, exchanged_states_sheet, exchanged_records_hold, exchanged_states, reversed_records, reversed_states_sheet, reversed_records_hold, reversed_states}
-use Rattle.edi_compare.proofs.Phases.{references_held, topology_held, all_held}
+use Rattle.edi_compare.proofs.Phases.{sheet_whole, references_held, topology_held, all_held}
 
 -- a link to a face
 abbrev IsSide : Role → Type 0
@@ -199,7 +199,7 @@ reversed_accepted =
     under' : IsPlanUnder arc_classes reversed_arc_plan
     under' = record {
       paired = under.paired;
-      whole = plans_whole arc_classes reversed_states.0 reversed_arc_plan reversed_states.2 (references.1 reversed_states.0 reversed_states.1);
+      whole = plans_whole arc_classes reversed_states.0 reversed_arc_plan reversed_states.2 (sheet_whole arc_classes reversed_arc_sheet reversed_records_hold reversed_states.0 reversed_states.1) (references.1 reversed_states.0 reversed_states.1);
       agrees = plans_agreeing arc_classes reversed_states.0 reversed_arc_plan reversed_states.2;
     }
 

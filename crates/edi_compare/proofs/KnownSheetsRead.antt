@@ -10,7 +10,7 @@ use Rattle.edi_line.specs.inner.Zones.{readings_of}
 use Rattle.edi_line.proofs.ZonesFound.{zones_of}
 use Rattle.edi_line.proofs.FirstBroken.{none_broken}
 use Rattle.edi_line.proofs.KnownFiles.{first_fault, unbroken_as, zones_as}
-use Rattle.edi_record.specs.Records.{States, values, has_points, is_link}
+use Rattle.edi_record.specs.Records.{States, values, has_points, is_link, SheetData}
 use Rattle.edi_record.specs.RecordRules.{BreaksRecordRule}
 use Rattle.edi_record.specs.Shapes.{kind_code}
 use Rattle.edi_record.specs.declared.name.Name.{Name}
@@ -20,7 +20,6 @@ use Rattle.edi_record.specs.declared.record.Extra.{Extra}
 use Rattle.edi_record.specs.declared.record.Kind.{Kind}
 use Rattle.edi_record.specs.declared.record.Point.{Point}
 use Rattle.edi_record.specs.declared.record.Record.{Record}
-use Rattle.edi_record.specs.declared.sheet.Sheet.{Sheet}
 use Rattle.edi_record.specs.inner.RecordRules.{record_tests, FailsTest}
 use Rattle.edi_record.specs.inner.Records.{ReadsAsRecord, attributes, ends, extras}
 use Rattle.edi_record.specs.inner.Texts.{class_of, point_in}
@@ -119,7 +118,7 @@ is_read bytes list = (length (groups_of (zones_of bytes)), all_found list (group
 abbrev pub to_read : List Record → ℕ × List Parts
 to_read list = (length list, map wanted list)
 
-pub sheet_as : (bytes : List ℕ) (sheet : Sheet) → first_fault (seen_in []) 1 (readings_of bytes) ≡ None
+pub sheet_as : (bytes : List ℕ) (sheet : SheetData) → first_fault (seen_in []) 1 (readings_of bytes) ≡ None
     → sheet.cse ≡ option_map (λ (e : ZoneData). e.value) (charset_of (zones_of bytes)) → is_read bytes sheet.list ≡ to_read sheet.list → IsSheetOf bytes sheet
 sheet_as bytes sheet lines set e = (
   zones_of bytes,
@@ -199,5 +198,5 @@ record_planned s list r p e = record {
     end_planned : (d : EndData) (t : PlanEnd) → ◌≡◌ {A = Option ℕ × Option (List ℕ)} (place_named list d.target, d.sns) (Some t.target, t.sns) → StatesPlanEnd list d t
     end_planned d t same = record { target = ap (λ (x : Option ℕ × Option (List ℕ)). x.0) same; sns = sym (ap (λ (x : Option ℕ × Option (List ℕ)). x.1) same) }
 
-pub plan_as : (s : Classes) (bytes : List ℕ) (sheet : Sheet) (p : PlanData) → IsSheetOf bytes sheet → p.cse ≡ sheet.cse → map (resolved s sheet.list) sheet.list ≡ map planned p.list → IsPlanOfFile s bytes p
+pub plan_as : (s : Classes) (bytes : List ℕ) (sheet : SheetData) (p : PlanData) → IsSheetOf bytes sheet → p.cse ≡ sheet.cse → map (resolved s sheet.list) sheet.list ≡ map planned p.list → IsPlanOfFile s bytes p
 plan_as s bytes sheet p states set e = (sheet, states, record { set = set; each = zip_of_maps (StatesPlanRecord s sheet.list) (resolved s sheet.list) planned (record_planned s sheet.list) sheet.list p.list e })

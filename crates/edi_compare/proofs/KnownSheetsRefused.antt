@@ -14,7 +14,7 @@ use Rattle.edi_line.proofs.ZonesFound.{zones_of}
 use Rattle.edi_line.proofs.KnownFiles.{first_fault, refused_as, unbroken_as}
 use Rattle.edi_record.specs.declared.record.Kind.TheVariants.{Pfe, Fea, Lnk}
 use Rattle.edi_record.specs.declared.record.Record.{Record}
-use Rattle.edi_record.specs.declared.sheet.Sheet.{Sheet}
+use Rattle.edi_record.specs.Records.{SheetData}
 use Rattle.edi_record.specs.inner.Records.{set_after, value_after, attributes, sns_after, ends, zones_placed}
 use Rattle.edi_record.specs.inner.Texts.{pointer, point_in, count}
 use Rattle.edi_record.proofs.RowsHold.{wrong_count}
@@ -61,8 +61,8 @@ count_refused = record_refusal node_classes wrong_count_sheet 205 1 wrong_count_
 
 -- ---- references
 
-abbrev face_sheet : Sheet
-face_sheet = record { cse = None; list = plain_record Pfe (codes "f") (codes "PGE") (codes "FAC_id") [] ∷ []; few = lit≤ tt; in_shape = refl }
+abbrev face_sheet : SheetData
+face_sheet = record { cse = None; list = plain_record Pfe (codes "f") (codes "PGE") (codes "FAC_id") [] ∷ [] }
 
 face_lines_hold : first_fault (seen_in []) 1 (readings_of lone_face_sheet) ≡ None
 unfolding reading_of has_head
@@ -153,12 +153,10 @@ bound_refused = topology_refusal arc_classes lone_face_sheet 406 1 face_referenc
 
 -- ---- objects
 
-abbrev objects_sheet : Sheet
+abbrev objects_sheet : SheetData
 objects_sheet = record {
   cse = None;
   list = plain_record Fea (codes "o") (codes "OBJ") (codes "BAT_id") [] ∷ plain_record Fea (codes "p") (codes "OBJ") (codes "BAT_id") [] ∷ [];
-  few = lit≤ tt;
-  in_shape = refl;
 }
 
 abbrev objects_plan : PlanData

@@ -1,5 +1,5 @@
 -- Known sheets of an arc between two nodes, and their plans.
-use Rattle.std.proofs.Common.{◌≡◌, refl, ℕ, true, List, [], ◌∷◌, None, codes, lit≤, subst}
+use Rattle.std.proofs.Common.{◌≡◌, refl, ℕ, true, List, [], ◌∷◌, None, codes, subst}
 use Rattle.std.specs.List.{list_all}
 use Rattle.edi_line.specs.Feeding.{seen_in}
 use Rattle.edi_line.specs.Zones.{groups_of}
@@ -13,7 +13,7 @@ use Rattle.edi_record.specs.declared.record.Kind.{Kind}
 use Rattle.edi_record.specs.declared.record.Kind.TheVariants.{Pno, Par, Pfe, Fea, Lnk}
 use Rattle.edi_record.specs.declared.record.Point.{Point}
 use Rattle.edi_record.specs.declared.record.Record.{Record}
-use Rattle.edi_record.specs.declared.sheet.Sheet.{Sheet}
+use Rattle.edi_record.specs.Records.{SheetData}
 use Rattle.edi_record.specs.inner.Records.{set_after, value_after, attributes, sns_after, ends, zones_placed}
 use Rattle.edi_record.specs.inner.Texts.{pointer, point_in, count}
 use Rattle.edi_compare.specs.Known.{arc_classes, position, turned_arc_sheet, turned_arc_plan, exchanged_sheet, exchanged_plan, reversed_arc_sheet, reversed_arc_plan}
@@ -50,8 +50,8 @@ arc_records to_f to_g =
 
 -- ---- the sheet
 
-abbrev pub arc_sheet : Sheet
-arc_sheet = record { cse = None; list = arc_records (codes "GCH_id") (codes "DRT_id"); few = lit≤ tt; in_shape = refl }
+abbrev pub arc_sheet : SheetData
+arc_sheet = record { cse = None; list = arc_records (codes "GCH_id") (codes "DRT_id") }
 
 pub arc_lines_hold : first_fault (seen_in []) 1 (readings_of turned_arc_sheet) ≡ None
 unfolding reading_of has_head
@@ -77,8 +77,8 @@ arc_states = plan_as arc_classes turned_arc_sheet arc_sheet turned_arc_plan arc_
 
 -- ---- with the sides exchanged
 
-abbrev pub exchanged_records : Sheet
-exchanged_records = record { cse = None; list = arc_records (codes "DRT_id") (codes "GCH_id"); few = lit≤ tt; in_shape = refl }
+abbrev pub exchanged_records : SheetData
+exchanged_records = record { cse = None; list = arc_records (codes "DRT_id") (codes "GCH_id") }
 
 exchanged_lines_hold : first_fault (seen_in []) 1 (readings_of exchanged_sheet) ≡ None
 unfolding reading_of has_head
@@ -110,7 +110,7 @@ not_same same =
 
 -- ---- the other presentation
 
-abbrev pub reversed_records : Sheet
+abbrev pub reversed_records : SheetData
 reversed_records = record {
   cse = None;
   list =
@@ -127,8 +127,6 @@ reversed_records = record {
       ∷ plain_record Pno (codes "n1") (codes "PGE") (codes "NOD_id") (position 0 0 ∷ [])
       ∷ plain_record Pno (codes "n2") (codes "PGE") (codes "NOD_id") (position 1000000 0 ∷ [])
       ∷ [];
-  few = lit≤ tt;
-  in_shape = refl;
 }
 
 reversed_lines_hold : first_fault (seen_in []) 1 (readings_of reversed_arc_sheet) ≡ None

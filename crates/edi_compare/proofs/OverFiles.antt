@@ -7,7 +7,7 @@ use Rattle.edi_schema.specs.Classes.{Classes, IsSchema}
 use Rattle.edi_schema.specs.Roles.{KindCodes}
 use Rattle.edi_schema.specs.SchemaOf.{StatesClass}
 use Rattle.edi_schema.specs.SchemaRefusal.{IsGoodSchema}
-use Rattle.edi_schema.proofs.FewGroups.{few_groups}
+use Rattle.edi_record.proofs.FewGroups.{few_groups}
 use Rattle.edi_schema.proofs.Good.{keeps}
 use Rattle.edi_schema.proofs.One.{schemas_one}
 use Rattle.edi_compare.specs.Headline.{IsFormOf}

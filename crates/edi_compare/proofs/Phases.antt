@@ -13,7 +13,9 @@ use Rattle.edi_line.proofs.ZonesSaid.{zones_of_one}
 use Rattle.edi_record.specs.RecordRules.{BreaksGroupRule, BreaksRecordRule}
 use Rattle.edi_record.specs.RecordRules.BreaksGroupRule.{lacks_kind, lacks_identifier, lacks_class as lacks_record_class, bad_attribute, wrong_count, bad_point, bad_end, unknown_pointer}
 use Rattle.edi_record.specs.declared.record.Record.{Record}
-use Rattle.edi_record.specs.declared.sheet.Sheet.{Sheet}
+use Rattle.edi_record.specs.Records.{SheetData}
+use Rattle.edi_record.specs.Whole.{IsWholeSheet}
+use Rattle.edi_record.proofs.WholeSheets.{whole_sheet}
 use Rattle.edi_schema.specs.Classes.{Classes}
 use Rattle.edi_plan.specs.Plans.{PlanData}
 use Rattle.edi_plan.specs.ReferenceRules.{BreaksReferenceRule}
@@ -87,9 +89,14 @@ topology_above p rule place (equals_reverse e h) = omega (arith, e)
 topology_above p rule place (repeats_arc e h) = omega (arith, e)
 topology_above p rule place (bounds_nothing e h) = omega (arith, e)
 
+-- ---- a sheet that is whole
+
+pub sheet_whole : (s : Classes) (b : List ℕ) → RecordsHold s b → (sheet : SheetData) → IsSheetOf b sheet → IsWholeSheet sheet
+sheet_whole s b held sheet is = whole_sheet b is.0 sheet is.1 held.0 is.2 (held.1 is.0 is.1)
+
 -- ---- one sheet, one plan
 
-one_list : (b : List ℕ) (sheet other : Sheet) → IsSheetOf b sheet → IsSheetOf b other → sheet.list ≡ other.list
+one_list : (b : List ℕ) (sheet other : SheetData) → IsSheetOf b sheet → IsSheetOf b other → sheet.list ≡ other.list
 one_list b sheet other h g = (reading_is_one.sheets b sheet other h g).1
 
 pub one_plan : (s : Classes) (b : List ℕ) (p q : PlanData) → IsPlanOfFile s b p → IsPlanOfFile s b q → p ≡ q
@@ -122,7 +129,7 @@ module _ (s : Classes) (b : List ℕ) where
       pub record_refusal : IsLeastBroken (BreaksRecordRule zones) rule at → (200 ≤ rule) × IsLeastBroken (Breaks s b) rule at
       record_refusal h = (group_above h.is.group rule h.is.breaks, record { is = of_records zones lines are h.is; least = after_records h.is h.least })
 
-    module _ (records : RecordsHold s b) (sheet : Sheet) (states : IsSheetOf b sheet) where
+    module _ (records : RecordsHold s b) (sheet : SheetData) (states : IsSheetOf b sheet) where
       after_references : BreaksReferenceRule s sheet.list rule at → ((r p : ℕ) → BreaksReferenceRule s sheet.list r p → (at < p) ⊎ ((at ≡ p) × (rule ≤ r)))
           → (r p : ℕ) → Breaks s b r p → (at < p) ⊎ ((at ≡ p) × (rule ≤ r))
       after_references is least r p (of_lines g) = absurd (records.0 r p g)
@@ -163,7 +170,7 @@ module _ (s : Classes) (b : List ℕ) where
   pub records_held : LinesHold s b → (zones : List ZoneData) → IsZonesOf b zones → IsUnbroken (BreaksRecordRule zones) → RecordsHold s b
   records_held lines zones are none = (lines, λ others z. subst (λ zs. IsUnbroken (BreaksRecordRule zs)) (zones_of_one b zones others are z) none)
 
-  pub references_held : RecordsHold s b → (sheet : Sheet) → IsSheetOf b sheet → IsUnbroken (BreaksReferenceRule s sheet.list) → ReferencesHold s b
+  pub references_held : RecordsHold s b → (sheet : SheetData) → IsSheetOf b sheet → IsUnbroken (BreaksReferenceRule s sheet.list) → ReferencesHold s b
   references_held records sheet states none = (records, λ other z. subst (λ list. IsUnbroken (BreaksReferenceRule s list)) (one_list b sheet other states z) none)
 
   pub topology_held : ReferencesHold s b → (plan : PlanData) → IsPlanOfFile s b plan → IsUnbroken (BreaksTopologyRule plan) → TopologyHolds s b

@@ -8,7 +8,7 @@ use Rattle.edi_line.specs.declared.fault.LineFault.{LineFault}
 use Rattle.edi_line.specs.declared.fault.LineFault.TheVariants as line
 use Rattle.edi_record.specs.RecordRefusal.{IsRecordRefusal, IsSheetRefusal}
 use Rattle.edi_record.specs.RecordRules.{BreaksRecordRule}
-use Rattle.edi_record.specs.declared.sheet.Sheet.{Sheet}
+use Rattle.edi_record.specs.Records.{SheetData}
 use Rattle.edi_record.specs.declared.fault.RecordFault.{RecordFault}
 use Rattle.edi_record.specs.declared.fault.RecordFault.TheVariants as record_
 use Rattle.edi_record.specs.declared.fault.SheetFault.{SheetFault}
@@ -44,7 +44,7 @@ module _ (s : Classes) (b : List ℕ) where
   sheet_fault (file.Line f) h = line_fault f h
   sheet_fault (file.Record f) h = record_fault h.0 h.1.0 h.1.1 f h.1.2
 
-  pub reference_fault : RecordsHold s b → (sheet : Sheet) → IsSheetOf b sheet → (f : RecordFault) → IsRecordRefusal (BreaksReferenceRule s sheet.list) f → IsRefusal s b (of_record f)
+  pub reference_fault : RecordsHold s b → (sheet : SheetData) → IsSheetOf b sheet → (f : RecordFault) → IsRecordRefusal (BreaksReferenceRule s sheet.list) f → IsRefusal s b (of_record f)
   reference_fault records sheet states (record_.Memory e) h = tt
   reference_fault records sheet states (record_.Broken rule at) h = reference_refusal s b rule at records sheet states h
 

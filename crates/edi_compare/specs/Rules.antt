@@ -4,7 +4,7 @@ use Rattle.edi_line.specs.ZoneData.{ZoneData}
 use Rattle.edi_line.specs.LineRules.{IsZonesOf, BreaksLineRule}
 use Rattle.edi_line.specs.Refusal.{IsUnbroken}
 use Rattle.edi_record.specs.RecordRules.{BreaksRecordRule}
-use Rattle.edi_record.specs.declared.sheet.Sheet.{Sheet}
+use Rattle.edi_record.specs.Records.{SheetData}
 use Rattle.edi_schema.specs.Classes.{Classes}
 use Rattle.edi_plan.specs.Plans.{PlanData}
 use Rattle.edi_plan.specs.ReferenceRules.{BreaksReferenceRule}
@@ -23,7 +23,8 @@ module _ (s : Classes) (b : List ℕ) where
 
   -- and none of references
   abbrev pub ReferencesHold : Type 0
-  ReferencesHold = RecordsHold × ((sheet : Sheet) → IsSheetOf b sheet → IsUnbroken (BreaksReferenceRule s sheet.list))
+  ReferencesHold =
+      RecordsHold × ((sheet : SheetData) → IsSheetOf b sheet → IsUnbroken (BreaksReferenceRule s sheet.list))
 
   -- and none of topology
   abbrev pub TopologyHolds : Type 0
@@ -33,7 +34,7 @@ module _ (s : Classes) (b : List ℕ) where
   pub data Breaks (rule at : ℕ) : Type 0 where
     of_lines : BreaksLineRule b rule at → Breaks rule at
     of_records : (zones : List ZoneData) → LinesHold → IsZonesOf b zones → BreaksRecordRule zones rule at → Breaks rule at
-    of_references : (sheet : Sheet) → RecordsHold → IsSheetOf b sheet → BreaksReferenceRule s sheet.list rule at
+    of_references : (sheet : SheetData) → RecordsHold → IsSheetOf b sheet → BreaksReferenceRule s sheet.list rule at
         → Breaks rule at
     of_topology : (p : PlanData) → ReferencesHold → IsPlanOfFile s b p → BreaksTopologyRule p rule at → Breaks rule at
     of_objects : (p : PlanData) → TopologyHolds → IsPlanOfFile s b p → BreaksObjectRule p rule at → Breaks rule at

@@ -8,7 +8,7 @@ ghost use Rattle.edi_compare.specs.inner.Under.{UnderSchema};
 
 use crate::canonical::canon_from;
 use crate::fault::RunFault;
-use crate::runs::{load_or_fault, read_input, read_input_pieces};
+use crate::runs::{load_or_fault, read_input};
 use edi_line::{ByteIn, FileBytes, Pieces};
 use edi_schema::{Kinds, Schema};
 use std::alloc::Global;
@@ -28,8 +28,8 @@ pub fn schema_of<S: ByteIn, D: ByteIn>(
     ensures after { IfErr result (λ e.
         AfterReading e (IsRead (seen S.ByteIn scd.old scd.new) × IsRead (seen D.ByteIn dic.old dic.new))) }
 {
-    let scd = read_input(alloc, scd, 1)?;
-    let dic = read_input(alloc, dic, 2)?;
+    let scd: Vec<u8> = read_input(alloc, scd, 1)?;
+    let dic: Vec<u8> = read_input(alloc, dic, 2)?;
     load_or_fault(alloc, kinds, &scd, &dic)
 }
 
@@ -44,7 +44,7 @@ pub fn canon_under<V: ByteIn>(
     ensures err { IfErr result (UnderFault schema.now (seen V.ByteIn vec.old vec.new)) }
     ensures after { IfErr result (λ e. AfterReading e (IsRead (seen V.ByteIn vec.old vec.new))) }
 {
-    let vec = read_input_pieces(alloc, vec, 3)?;
+    let vec: Pieces = read_input(alloc, vec, 3)?;
     form_or_fault(alloc, schema, vec)
 }
 

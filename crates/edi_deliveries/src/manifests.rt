@@ -119,7 +119,7 @@ fn print<O: ByteOut, E: ByteOut>(
     };
     match put_all(out, &text) {
         Ok(()) => 0,
-        Err(_) => report::unwritten(err),
+        Err(_) => report::say_unwritten(err),
     }
 }
 
@@ -205,7 +205,7 @@ impl<'a, 'n> ManifestRequest<'a, 'n> {
         match self.is_file_in(folder) {
             Ok(true) => {
                 let fault = RunFault::Write(Written { count: 0 });
-                report::warned(self.alloc, folder, err, &fault, &[self.path, self.file])
+                report::say_fault(self.alloc, folder, err, &fault, &[self.path, self.file])
             }
             Ok(false) => self.put_found(folder, err),
             Err(_) => report::out_of_memory(err),
@@ -289,7 +289,13 @@ impl<'a, 'n> ManifestRequest<'a, 'n> {
     {
         match put_lines(self.alloc, folder, lines, self.file) {
             Ok(()) => 0,
-            Err(fault) => report::warned(self.alloc, folder, err, &fault, &[self.path, self.file]),
+            Err(fault) => report::say_fault(
+                self.alloc,
+                folder,
+                err,
+                &fault,
+                &[self.path, self.file],
+            ),
         }
     }
 }

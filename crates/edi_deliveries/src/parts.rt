@@ -12,7 +12,7 @@ use crate::lot_files::{found_path, lot_paths};
 use crate::lots::say_missing;
 use crate::opening::OpenDelivery;
 use crate::said::{say_lines, unnamed_lines};
-use edi_answers::hashes::{digest_of, loaded, path_of_schema, tell_fault};
+use edi_answers::hashes::{digest_of, load_schema, path_of_schema, tell_fault};
 use edi_answers::whole::read_whole;
 use edi_answers::{notes, report};
 use edi_compare::RunFault;
@@ -230,7 +230,7 @@ impl<'a, F: Folder> LotFinder<'a, F> {
             lines.old.items lines.new.items (written E.ByteOut err.old err.new) result }
         ensures stays { IsTrue (E.has_failed err.old) → IsTrue (E.has_failed err.new) }
     {
-        match loaded(self.alloc, self.folder, self.kinds, files) {
+        match load_schema(self.alloc, self.folder, self.kinds, files) {
             Ok(loaded) => {
                 notes::say(err, &loaded.note);
                 self.find_sheets(&loaded.schema, lines, err)

@@ -12,7 +12,7 @@ ghost use Rattle.edi_deliveries.specs.Deliveries.{found_name, found_names, is_un
 ghost use Rattle.edi_deliveries.specs.inner.Paths.{HasJustNames};
 
 use crate::found::{FolderNames, has_extension};
-use edi_answers::hashes::{escaped, push_named};
+use edi_answers::hashes::{escape_name, push_named};
 use edi_answers::{notes, report};
 use edi_delivery::{DeliveryFault, Lot};
 use edi_files::{Reason, push_reason};
@@ -62,7 +62,7 @@ fn push_missing(
 {
     let path = path_bytes(alloc, before, file)?;
     push_named(alloc, lines, &path, b"cannot read")?;
-    let name = escaped(alloc, &path)?;
+    let name = escape_name(alloc, &path)?;
     push_reason(lines, &name, Reason::NoFile)
 }
 

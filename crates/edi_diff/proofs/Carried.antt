@@ -13,7 +13,8 @@ use Rattle.edi_plan.proofs.Built.{plans_whole}
 use Rattle.edi_rank.specs.Labelling.{turned_at}
 use Rattle.edi_rank.specs.Same.{CarriesRecord, directed, moved}
 use Rattle.edi_rank.proofs.KeysPreserved.{all_weaker}
-use Rattle.edi_compare.proofs.Headline.{references_hold}
+use Rattle.edi_compare.proofs.Headline.{records_hold, references_hold}
+use Rattle.edi_compare.proofs.Phases.{sheet_whole}
 use Rattle.edi_compare.specs.PlanOfFile.{IsPlanOfFile}
 use Rattle.edi_compare.specs.Rules.{IsAccepted}
 use Rattle.edi_matching.specs.Matchings.{GoesTo, IsMatched, MatchingHolds, targets_of}
@@ -68,7 +69,7 @@ report_sound s first second unchanged became parts whole whole' are each = recor
 }
 
 accepted_whole : (s : Classes) (b : List ℕ) (p : PlanData) → IsAccepted s b → IsPlanOfFile s b p → IsWholePlan p
-accepted_whole s b p accepted states = plans_whole s states.0 p states.2 (references_hold s b accepted states.0 states.1)
+accepted_whole s b p accepted states = plans_whole s states.0 p states.2 (sheet_whole s b (records_hold s b accepted) states.0 states.1) (references_hold s b accepted states.0 states.1)
 
 pub difference_sound : (s : Classes) (a b : List ℕ) (form : TextForm) (found : Difference) → IsAccepted s a → IsAccepted s b → (d : IsDifference s a b form found) → IsSoundReport (report_in s a b form found d)
 difference_sound s a b form found accepted accepted' d =

@@ -39,12 +39,7 @@ fn is_out(marks: &[Mark], place: u32) -> bool
 fn names_out(marks: &[Mark], ends: &[PlanEnd]) -> bool
     ensures { result ≡ list_any (λ e. is_out marks.now e.target) ends.now }
 {
-    for end in ends {
-        if is_out(marks, end.target) {
-            return true;
-        }
-    }
-    false
+    ends.iter().any(|end| is_out(marks, end.target))
 }
 
 /// Whether a link isn't in both sheets as it is, or something that it names.

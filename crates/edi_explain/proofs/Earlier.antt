@@ -1,7 +1,7 @@
 -- The earlier records that rules speak of.
 use Rattle.std.proofs.Common.{◌≡◌, ◌≢◌, ◌-◌, ◌<◌, ℕ, List, Option, None, refl, arith}
 use Rattle.edi_record.specs.declared.fault.RecordFault.TheVariants.{Broken}
-use Rattle.edi_record.specs.declared.sheet.Sheet.{Sheet}
+use Rattle.edi_record.specs.Records.{SheetData}
 use Rattle.edi_plan.specs.Plans.{PlanData}
 use Rattle.edi_schema.specs.Classes.{Classes}
 use Rattle.edi_topo.specs.TopologyRules.{BreaksTopologyRule}
@@ -81,7 +81,7 @@ no_end_node s b rule place initial final = record {
 }
 
 -- the earlier link by 307, or none by another rule of references that is found so
-pub link_earlier : (s : Classes) (b : List ℕ) (sheet : Sheet) → IsSheetOf b sheet → (rule at : ℕ) (earlier : Option ℕ) → rule < 400 → rule ≢ 301 → rule ≢ 304
+pub link_earlier : (s : Classes) (b : List ℕ) (sheet : SheetData) → IsSheetOf b sheet → (rule at : ℕ) (earlier : Option ℕ) → rule < 400 → rule ≢ 301 → rule ≢ 304
     → IsEarlierLinkIfAny s sheet.list (Broken rule at) earlier → IsEarlierIfAny s b rule (at - 1) earlier
 link_earlier s b sheet states rule at earlier below name subset found = record {
   names = λ e. absurd (name e);

@@ -3,7 +3,7 @@ use Rattle.std.specs.Prelude.{◌≡◌, ◌≢◌, ◌-◌, ℕ, suc, List, Opt
 use Rattle.edi_line.specs.ZoneData.{ZoneData}
 use Rattle.edi_line.specs.LineRules.{IsZonesOf}
 use Rattle.edi_line.specs.Zones.{groups_of}
-use Rattle.edi_record.specs.declared.sheet.Sheet.{Sheet}
+use Rattle.edi_record.specs.Records.{SheetData}
 use Rattle.edi_plan.specs.Plans.{PlanData}
 use Rattle.edi_schema.specs.Classes.{Classes}
 use Rattle.edi_compare.specs.PlanOfFile.{IsPlanOfFile, IsSheetOf}
@@ -18,9 +18,9 @@ use Rattle.edi_explain.specs.declared.site.RecordSite.{RecordSite}
 -- breaks the rule with the record at the place: 301 by its name, 304 by its subset, 307 by the side of an arc, 403 as
 -- an equal node, 405 as the same arc, 501 as an equal object.
 pub record IsEarlierIfAny (s : Classes) (b : List ℕ) (rule place : ℕ) (found : Option ℕ) : Type 0 where
-  pub names : rule ≡ 301 → (sheet : Sheet) × IsSheetOf b sheet × IsLeastIfAny (SharesName sheet.list place) found
-  pub subsets : rule ≡ 304 → (sheet : Sheet) × IsSheetOf b sheet × IsLeastIfAny (HasEnd sheet.list place) found
-  pub sides : rule ≡ 307 → (sheet : Sheet) × IsSheetOf b sheet × IsLeastIfAny (SharesSide s sheet.list place) found
+  pub names : rule ≡ 301 → (sheet : SheetData) × IsSheetOf b sheet × IsLeastIfAny (SharesName sheet.list place) found
+  pub subsets : rule ≡ 304 → (sheet : SheetData) × IsSheetOf b sheet × IsLeastIfAny (HasEnd sheet.list place) found
+  pub sides : rule ≡ 307 → (sheet : SheetData) × IsSheetOf b sheet × IsLeastIfAny (SharesSide s sheet.list place) found
   pub nodes : rule ≡ 403 → (p : PlanData) × IsPlanOfFile s b p × IsLeastIfAny (IsEqualNode p place) found
   pub arcs : rule ≡ 405 → (p : PlanData) × IsPlanOfFile s b p × IsLeastIfAny (SharesPoints p place) found
   pub objects : rule ≡ 501 → (p : PlanData) × IsPlanOfFile s b p × IsLeastIfAny (IsEqualObject p place) found

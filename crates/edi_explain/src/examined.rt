@@ -7,7 +7,7 @@ ghost use Rattle.edi_plan.specs.EarlierLinks.{IsEarlierLinkIfAny};
 ghost use Rattle.edi_plan.specs.ReferenceRules.{BreaksReferenceRule};
 ghost use Rattle.edi_record.specs.RecordRefusal.{IsRecordRefusal};
 ghost use Rattle.edi_record.specs.declared.fault.RecordFault.TheVariants.{Broken};
-ghost use Rattle.edi_record.specs.declared.sheet.Sheet.{Sheet as Sheets};
+ghost use Rattle.edi_record.specs.Records.{SheetData};
 ghost use Rattle.edi_topo.specs.TopologyRules.{BreaksTopologyRule};
 ghost use Rattle.edi_compare.specs.PlanOfFile.{IsPlanOfFile, IsSheetOf};
 ghost use Rattle.edi_compare.specs.Refused.{IsRefusal};
@@ -83,7 +83,7 @@ fn found_at<'a>(
 fn found_in_zones<'a>(alloc: Global, bytes: &'a [u8], rule: u16, at: u64) -> Found<'a>
     requires lines { IsUnbroken (BreaksLineRule bytes.now) }
     requires rule { (rule ≡ 301) ⊎ (rule ≡ 304) }
-    ensures { (s : Classes) (sheet : Sheets) → IsSheetOf bytes.now sheet → IsRefusal s bytes.now (AtRecord rule at)
+    ensures { (s : Classes) (sheet : SheetData) → IsSheetOf bytes.now sheet → IsRefusal s bytes.now (AtRecord rule at)
         → IsFound s bytes.now result }
 {
     match zones_of(alloc, bytes) {
@@ -106,7 +106,7 @@ fn found_early<'a>(
     earlier: Option<u64>,
 ) -> Found<'a>
     requires { IsUnbroken (BreaksLineRule bytes.now) }
-    ensures { (s : Classes) (sheet : Sheets) → rule < 400 → IsSheetOf bytes.now sheet
+    ensures { (s : Classes) (sheet : SheetData) → rule < 400 → IsSheetOf bytes.now sheet
         → IsRefusal s bytes.now (AtRecord rule at) → IsEarlierLinkIfAny s sheet.list (Broken rule at) earlier
         → IsFound s bytes.now result }
 {
@@ -124,7 +124,7 @@ fn found_unplanned<'a>(
     unplanned: Unplanned,
 ) -> Found<'a>
     requires { RecordsHold schema.now bytes.now }
-    ensures { (sheet : Sheets) → IsSheetOf bytes.now sheet
+    ensures { (sheet : SheetData) → IsSheetOf bytes.now sheet
         → IsRecordRefusal (BreaksReferenceRule schema.now sheet.list) unplanned.fault
         → IsEarlierLinkIfAny schema.now sheet.list unplanned.fault unplanned.earlier
         → IsFound schema.now bytes.now result }

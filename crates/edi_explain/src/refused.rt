@@ -3,7 +3,7 @@
 ghost use Rattle.std.specs.Prelude.{◌≡◌, ◌⊎◌, ℕ, List, Option, IfOk};
 ghost use Rattle.edi_line.specs.ZoneData.{ZoneData, entries};
 ghost use Rattle.edi_line.specs.LineRules.{IsZonesOf};
-ghost use Rattle.edi_record.specs.declared.sheet.Sheet.{Sheet as Sheets};
+ghost use Rattle.edi_record.specs.Records.{SheetData};
 ghost use Rattle.edi_compare.specs.PlanOfFile.{IsSheetOf};
 ghost use Rattle.edi_schema.specs.Classes.{Classes};
 ghost use Rattle.edi_explain.specs.Refusals.{AreSites, IsEarlierIfAny, IsEarlierRowIfAny};
@@ -31,7 +31,7 @@ pub(crate) struct FoundRecords<'a, 'b> {
 /// The earlier record that a rule of references speaks of among the zones of a sheet: by its name, or by its subset.
 pub(crate) fn earlier_in_zones(zones: &[Zone<'_>], rule: u16, place: u64) -> Option<u64>
     requires { (rule ≡ 301) ⊎ (rule ≡ 304) }
-    ensures { (s : Classes) (b : List ℕ) (sheet : Sheets) → IsZonesOf b (entries zones.now) → IsSheetOf b sheet
+    ensures { (s : Classes) (b : List ℕ) (sheet : SheetData) → IsZonesOf b (entries zones.now) → IsSheetOf b sheet
         → IsEarlierIfAny s b rule place result }
 {
     if rule == 301 {

@@ -19,6 +19,7 @@ pub mod Made
 pub mod Readings
 pub mod ZonesFound
 pub mod ZonesSaid
+pub mod ZonesThere
 pub mod Said
 pub mod Printed
 pub mod PrintedRules

@@ -1,5 +1,5 @@
 -- What a line is by its code.
-use Rattle.std.specs.Prelude.{ℕ, Bool, true, false, ◌||◌, not, List, if◌then◌else◌, Some, None, Ok, Err, bytes_eq, codes}
+use Rattle.std.specs.Prelude.{ℕ, Bool, true, false, ◌||◌, not, List, if◌then◌else◌, Some, Ok, bytes_eq, codes}
 use Rattle.std.specs.List.{list_any}
 use Rattle.edi_line.specs.Spelling.{Reading}
 use Rattle.edi_line.specs.declared.order.ZoneKind.{ZoneKind}
@@ -72,8 +72,7 @@ starts kind = is_zone kind || is_remark kind
 -- the line has a code whose kind passes the test
 abbrev pub bears : (ZoneKind → Bool) → Reading → Bool
 bears test (Ok (Some s)) = test (kind_of s.code)
-bears test (Ok None) = false
-bears test (Err rule) = false
+bears test _ = false
 
 -- some of the lines does
 abbrev pub some_bears : (ZoneKind → Bool) → List Reading → Bool

@@ -1,5 +1,5 @@
 -- The zones of lines, and the shape of a file.
-use Rattle.std.specs.Prelude.{◌≡◌, ℕ, ◌+◌, Bool, true, false, ◌||◌, List, [], ◌∷◌, ◌++◌, length, if◌then◌else◌, Option, Some, None, Ok, Err, filter, option_to_list, IfSome, codes}
+use Rattle.std.specs.Prelude.{◌≡◌, ℕ, ◌+◌, Bool, true, false, ◌||◌, List, [], ◌∷◌, ◌++◌, length, if◌then◌else◌, Option, Some, Ok, filter, option_to_list, IfSome, codes}
 use Rattle.std.specs.List.{flat_map, AllByRecursion}
 use Rattle.std.specs.Cow.{IsOwnedSlice}
 use Rattle.edi_line.specs.ZoneData.{ZoneData, has_code, first}
@@ -14,8 +14,7 @@ use Rattle.edi_line.specs.declared.zone.Zone.{Zone}
 -- the value that a line spells, if it spells one
 abbrev pub value_in : Reading → List ℕ
 value_in (Ok (Some s)) = s.value
-value_in (Ok None) = []
-value_in (Err rule) = []
+value_in _ = []
 
 -- what the NEX lines hold that come behind a line, before the next zone or remark
 pub record GoesOn (behind : List Reading) (more : List ℕ) : Type 0 where

@@ -32,7 +32,7 @@ pub use groups::{GroupOut, read_groups, read_groups_from};
 pub use known::{known_lines_are_read, known_numbers_are_read};
 pub use lines::lines_are_unique;
 pub use num::{Num, numbers_are_unique, push_millionths, push_number, spellings_are_read};
-pub use reading::{printed_zones_are_read_again, zones, zones_are_unique};
+pub use reading::{printed_zones_are_read_again, zones, zones_are_there, zones_are_unique};
 pub use script::{ScriptIn, ScriptOut};
 pub use sequence::Sequence;
 pub use spelling::readings_are_unique;

@@ -271,6 +271,12 @@ pub fn printed_zones_are_read_again()
         → AllByRecursion IsPrintable zs → length groups ≤ most_records → IsUnbroken (BreaksLineRule (printed zs)) }
 {}
 
+/// A file that breaks no rule of lines has zones, of at most 9,999,999 records.
+pub fn zones_are_there()
+    ensures { (bytes : List ℕ) → IsUnbroken (BreaksLineRule bytes)
+        → (zones : List ZoneData) × IsZonesOf bytes zones × (length (groups_of zones) ≤ most_records) }
+{}
+
 /// A file has one list of zones at most, and these one character set and one list of groups.
 pub fn zones_are_unique()
     ensures zones { (bytes : List ℕ) (zones others : List ZoneData) → IsZonesOf bytes zones → IsZonesOf bytes others

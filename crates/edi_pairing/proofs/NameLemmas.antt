@@ -14,7 +14,7 @@ use Rattle.edi_record.specs.RecordRules.{is_identifier}
 use Rattle.edi_record.specs.Shapes.{kind_code}
 use Rattle.edi_record.specs.Texts.{is_semicolon}
 use Rattle.edi_record.specs.declared.record.Record.{Record}
-use Rattle.edi_record.specs.declared.sheet.Sheet.{Sheet}
+use Rattle.edi_record.specs.Records.{SheetData}
 use Rattle.edi_schema.specs.Classes.{Classes}
 use Rattle.edi_plan.specs.PlanOf.{own_name}
 use Rattle.edi_plan.specs.ReferenceRules.BreaksReferenceRule.{repeats_name}
@@ -81,7 +81,7 @@ plain_identifier rid h one =
 
 -- ---- the names of an accepted sheet
 
-module _ (s : Classes) (bytes : List ℕ) (sheet : Sheet) (is_sheet : IsSheetOf bytes sheet) (held : RecordsHold s bytes) (accepted : IsAccepted s bytes) where
+module _ (s : Classes) (bytes : List ℕ) (sheet : SheetData) (is_sheet : IsSheetOf bytes sheet) (held : RecordsHold s bytes) (accepted : IsAccepted s bytes) where
   -- no record has the name of an earlier one
   no_repeat : (j k : ℕ) (q r : Record) → j < k → slice_get sheet.list j ≡ Some q → slice_get sheet.list k ≡ Some r → own_name q ≡ own_name r → ⊥
   no_repeat j k q r less there here same =

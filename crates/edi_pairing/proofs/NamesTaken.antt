@@ -20,6 +20,7 @@ use Rattle.edi_pairing.specs.Names.{AreNames, AreNamesOf, names_of}
 use Rattle.edi_pairing.specs.inner.Taken.{HasTaken, taken_kind, taken_name, taken_rid}
 use Rattle.edi_pairing.specs.declared.names.RecordName.{RecordName}
 use Rattle.edi_pairing.specs.declared.taken.TakenNames.{TakenNames}
+use Rattle.edi_compare.proofs.Phases.{sheet_whole}
 use Rattle.edi_pairing.proofs.NameLemmas.{names_sound}
 
 pushed : (groups : List (List ZoneData)) (group : List ZoneData) → map taken_name (groups ++ group ∷ []) ≡ map taken_name groups ++ taken_name group ∷ []
@@ -75,4 +76,6 @@ module _ (s : Classes) (b : List ℕ) (p : PlanData) (taken : TakenNames) (plan 
     records_hold = (lines_hold, λ zones are rule at h. accepted rule at (of_records zones lines_hold are h))
 
     pub names_keep : AreNames taken.list.items
-    names_keep = subst AreNames (sym taken_are) (names_sound s b plan.0 plan.1 records_hold accepted short plan.0.few)
+    names_keep =
+        let whole = sheet_whole s b records_hold plan.0 plan.1 in
+        subst AreNames (sym taken_are) (names_sound s b plan.0 plan.1 records_hold accepted short whole.few)

@@ -4,7 +4,7 @@ use Rattle.std.specs.List.{list_any}
 use Rattle.edi_line.specs.Bytes.{line_feed, most_records, semicolon}
 use Rattle.edi_record.specs.declared.record.Kind.TheVariants.{Pno}
 use Rattle.edi_record.specs.declared.record.Record.{Record}
-use Rattle.edi_record.specs.declared.sheet.Sheet.{Sheet}
+use Rattle.edi_record.specs.Records.{SheetData}
 use Rattle.edi_compare.specs.PlanOfFile.{IsSheetOf}
 use Rattle.edi_pairing.specs.declared.names.RecordName.{RecordName}
 
@@ -28,4 +28,4 @@ pub record AreNames (names : List RecordName) : Type 0 where
 
 -- the names of the records that a file states
 abbrev pub AreNamesOf : List ℕ → List RecordName → Type 0
-AreNamesOf bytes names = (sheet : Sheet) × IsSheetOf bytes sheet × (names ≡ names_of sheet.list)
+AreNamesOf bytes names = (sheet : SheetData) × IsSheetOf bytes sheet × (names ≡ names_of sheet.list)

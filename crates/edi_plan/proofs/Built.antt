@@ -6,7 +6,7 @@ use Rattle.std.proofs.lemmas.Bool.{ltb-true}
 use Rattle.std.proofs.lemmas.Option.{same_Some, none-some, get_or_from_slice_get}
 use Rattle.std.proofs.lemmas.List.Sums.{sum_by-cons}
 use native.Mathlib.Decide.{dec_le}
-use Rattle.edi_record.specs.Records.{IsValueOf, is_link}
+use Rattle.edi_record.specs.Records.{IsValueOf, is_link, SheetData}
 use Rattle.edi_record.specs.inner.Records.{value_of}
 use Rattle.edi_record.specs.declared.record.Value.{Value}
 use Rattle.edi_record.specs.declared.record.Value.TheVariants.{Number, Bytes}
@@ -16,13 +16,13 @@ use Rattle.edi_plan.specs.Agreeing.{AttributeAgrees, RecordAgrees, Agrees}
 use Rattle.edi_plan.specs.ReferenceRules.BreaksReferenceRule.{names_nothing, joins_wrong}
 use Rattle.edi_schema.proofs.Paired.{count-cons}
 use Rattle.edi_line.specs.Refusal.{IsUnbroken}
+use Rattle.edi_record.specs.Whole.{IsWholeSheet}
 use Rattle.edi_record.specs.Shapes.{may_have_points, may_have_ends, is_in_shape}
 use Rattle.edi_record.specs.declared.name.Name.{Name}
 use Rattle.edi_record.specs.declared.record.Record.{Record}
 use Rattle.edi_record.specs.LinkEnds.{EndData}
 use Rattle.edi_record.specs.declared.record.Kind.{Kind}
 use Rattle.edi_record.specs.declared.record.Kind.TheVariants.{Pno, Par, Pfe, Fea, Lnk}
-use Rattle.edi_record.specs.declared.sheet.Sheet.{Sheet}
 use Rattle.edi_schema.specs.Classes.{Classes, is_name, place_of, role_of, role_named, class_at, class_named, is_number_of, is_number_named}
 use Rattle.edi_schema.specs.Roles.{is_plain}
 use Rattle.edi_schema.specs.declared.role.Role.{Role}
@@ -165,7 +165,7 @@ record_agrees s list r p st = record {
   attributes = zip_weaker (StatesPlanAttribute s) (AttributeAgrees s) (attribute_agrees s) r.attributes p.attributes st.attributes;
 }
 
-pub plans_agreeing : (s : Classes) (sheet : Sheet) (p : PlanData) → IsPlanOf s sheet p → Agrees s p
+pub plans_agreeing : (s : Classes) (sheet : SheetData) (p : PlanData) → IsPlanOf s sheet p → Agrees s p
 plans_agreeing s sheet p is = zip_weaker (StatesPlanRecord s sheet.list) (RecordAgrees s) (record_agrees s sheet.list) sheet.list p.list is.each
 
 -- the plan of a sheet is one
@@ -194,7 +194,7 @@ one_record s list r p q h g =
     let e = zip_one (StatesPlanEnd list) (StatesPlanEnd list) (one_end list) r.ends p.ends q.ends h.ends g.ends in
     λ i. record { kind = k i; class = c i; role = o i; points = x i; attributes = a i; extras = f i; ends = e i }
 
-pub one_plan_of : (s : Classes) (sheet other : Sheet) (p q : PlanData) → sheet.cse ≡ other.cse → sheet.list ≡ other.list → IsPlanOf s sheet p → IsPlanOf s other q → p ≡ q
+pub one_plan_of : (s : Classes) (sheet other : SheetData) (p q : PlanData) → sheet.cse ≡ other.cse → sheet.list ≡ other.list → IsPlanOf s sheet p → IsPlanOf s other q → p ≡ q
 one_plan_of s sheet other p q set list h g =
     let c = h.set ∙ (set ∙ sym g.set) in
     let there : AllZip (StatesPlanRecord s sheet.list) sheet.list q.list = subst (λ l. AllZip (StatesPlanRecord s l) l q.list) (sym list) g.each in
@@ -203,7 +203,7 @@ one_plan_of s sheet other p q set list h g =
 
 -- each end is there
 
-module _ (s : Classes) (sheet : Sheet) (p : PlanData) (is : IsPlanOf s sheet p) where
+module _ (s : Classes) (sheet : SheetData) (p : PlanData) (is : IsPlanOf s sheet p) (whole : IsWholeSheet sheet) where
   long : length sheet.list ≡ length p.list
   long = zip_length (StatesPlanRecord s sheet.list) sheet.list p.list is.each
 
@@ -233,12 +233,12 @@ module _ (s : Classes) (sheet : Sheet) (p : PlanData) (is : IsPlanOf s sheet p) 
   points : (k : ℕ) → IsPlace p k → may_have_points (record_at p k).kind (length (record_at p k).points) ≡ true
   points k h =
       let at = stated k h in
-      rw (at.2.kind, at.2.points) (both_true _ _ (shape sheet.list sheet.in_shape k at.0 at.1)).0
+      rw (at.2.kind, at.2.points) (both_true _ _ (shape sheet.list whole.shape k at.0 at.1)).0
 
   ends : (k : ℕ) → IsPlace p k → may_have_ends (record_at p k).kind (length (record_at p k).ends) ≡ true
   ends k h =
       let at = stated k h in
-      rw (at.2.kind, sym (zip_length (StatesPlanEnd sheet.list) at.0.ends (record_at p k).ends at.2.ends)) (both_true _ _ (shape sheet.list sheet.in_shape k at.0 at.1)).1
+      rw (at.2.kind, sym (zip_length (StatesPlanEnd sheet.list) at.0.ends (record_at p k).ends at.2.ends)) (both_true _ _ (shape sheet.list whole.shape k at.0 at.1)).1
 
   module _ (hold : IsUnbroken (BreaksReferenceRule s sheet.list)) where
     -- an end that names a link names nothing
@@ -341,4 +341,4 @@ module _ (s : Classes) (sheet : Sheet) (p : PlanData) (is : IsPlanOf s sheet p) 
         go (inr none) = omega (arith, none, Rattle.std.proofs.lemmas.List.Sums.count_by-le-length (λ (e : PlanEnd). is_arc (record_at p e.target).kind) (record_at p k).ends)
 
     pub plans_whole : IsWholePlan p
-    plans_whole = record { few = omega (arith, sheet.few, long); there = there; no_link = no_link; points = points; ends = ends; one_arc = one_arc }
+    plans_whole = record { few = omega (arith, whole.few, long); there = there; no_link = no_link; points = points; ends = ends; one_arc = one_arc }

@@ -7,7 +7,7 @@ use Rattle.edi_record.specs.LinkEnds.{EndData}
 use Rattle.edi_record.specs.declared.record.Kind.{Kind}
 use Rattle.edi_record.specs.declared.record.Kind.TheVariants.{Par}
 use Rattle.edi_record.specs.declared.record.Record.{Record}
-use Rattle.edi_record.specs.declared.sheet.Sheet.{Sheet}
+use Rattle.edi_record.specs.Records.{SheetData}
 use Rattle.edi_schema.specs.Classes.{Classes}
 use Rattle.edi_schema.specs.Roles.{is_plain}
 use Rattle.edi_schema.specs.declared.role.Role.{Role}
@@ -36,7 +36,7 @@ kind_same a b h = one_kind a b (eqb-true (kind_rank a) (kind_rank b) h)
 same_true : (a b : Kind) → a ≡ b → same_kind a b ≡ true
 same_true a b e = eq-eqb (kind_rank a) (kind_rank b) (ap kind_rank e)
 
-module _ (s : Classes) (sheet : Sheet) (p : PlanData) (is : IsPlanOf s sheet p) (hold : IsUnbroken (BreaksReferenceRule s sheet.list)) where
+module _ (s : Classes) (sheet : SheetData) (p : PlanData) (is : IsPlanOf s sheet p) (hold : IsUnbroken (BreaksReferenceRule s sheet.list)) where
   stated : (k : ℕ) → IsPlace p k → (r : Record) × (slice_get sheet.list k ≡ Some r) × StatesPlanRecord s sheet.list r (record_at p k)
   stated k h = zip_at (StatesPlanRecord s sheet.list) sheet.list p.list is.each k blank h
 

@@ -19,4 +19,5 @@ pub mod Leasts
 pub mod EarlierLinks
 pub mod PlanLemmas
 pub mod JoinedLemmas
+pub mod PlansThere
 pub mod Spans

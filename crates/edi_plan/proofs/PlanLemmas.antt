@@ -7,7 +7,7 @@ use Rattle.edi_record.specs.LinkEnds.{EndData}
 use Rattle.edi_record.specs.declared.record.Kind.{Kind}
 use Rattle.edi_record.specs.declared.record.Kind.TheVariants.{Par}
 use Rattle.edi_record.specs.declared.record.Record.{Record}
-use Rattle.edi_record.specs.declared.sheet.Sheet.{Sheet}
+use Rattle.edi_record.specs.Records.{SheetData}
 use Rattle.edi_schema.specs.Classes.{Classes}
 use Rattle.edi_schema.specs.Roles.{is_plain}
 use Rattle.edi_schema.specs.declared.role.Role.{Role}
@@ -42,7 +42,7 @@ all_unbroken s list table done rule at h =
     let e : at ≡ suc (at - 1) = omega (arith, l.0) in
     done.unbroken (at - 1) rule (omega (arith, l.0, l.1)) (subst (BreaksReferenceRule s list rule) e h)
 
-module _ (s : Classes) (sheet : Sheet) (p : PlanData) (is : IsPlanOf s sheet p) (table : List (ByRole (Option ℕ))) (done : IsDone s sheet.list (length sheet.list) table) where
+module _ (s : Classes) (sheet : SheetData) (p : PlanData) (is : IsPlanOf s sheet p) (table : List (ByRole (Option ℕ))) (done : IsDone s sheet.list (length sheet.list) table) where
   long : length sheet.list ≡ length p.list
   long = zip_length (StatesPlanRecord s sheet.list) sheet.list p.list is.each
 

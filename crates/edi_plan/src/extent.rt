@@ -62,7 +62,7 @@ impl Span {
     }
 
     /// The span with one number more.
-    fn widened(self, number: Num) -> Span
+    fn with_number(self, number: Num) -> Span
         ensures { (numbers : List ℤ) → IsSpan numbers self → IsSpan (numbers ++ number ∷ []) result }
     {
         Span {
@@ -78,8 +78,8 @@ pub fn extent_with_point(found: Option<Extent>, point: &Point) -> Extent
 {
     match found {
         Some(extent) => Extent {
-            x: extent.x.widened(point.x),
-            y: extent.y.widened(point.y),
+            x: extent.x.with_number(point.x),
+            y: extent.y.with_number(point.y),
         },
         None => Extent {
             x: Span::at(point.x),

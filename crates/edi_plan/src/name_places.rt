@@ -1,13 +1,15 @@
 //! Where the names of records are looked up.
 
-ghost use Rattle.std.specs.Prelude.{◌≡◌, ◌≤◌, List, length, IfOk};
+ghost use Rattle.std.specs.Prelude.{◌≡◌, ◌≤◌, false, List, length, IfOk};
 ghost use Rattle.edi_line.specs.Bytes.{most_records};
 ghost use Rattle.edi_record.specs.declared.record.Record.{Record as Records};
-ghost use Rattle.edi_plan.specs.inner.Names.{IsFirstRepeatedNameIfAny};
+ghost use Rattle.edi_record.specs.Records.{is_link};
+ghost use Rattle.edi_plan.specs.PlanOf.{place_named};
+ghost use Rattle.edi_plan.specs.inner.Names.{name_lent, IsFirstRepeatedNameIfAny};
 ghost use Rattle.edi_plan.specs.inner.Found.{FindsAll};
 
 use crate::name_slots::NameHints;
-use crate::names::{Names, links_rise};
+use crate::names::{Names, RecordNameRef, links_rise};
 use edi_record::SheetRecords;
 use std::alloc::{AllocError, Global};
 
@@ -49,6 +51,18 @@ impl<'a> NamePlaces<'a> {
         match self {
             NamePlaces::Hinted(_) => None,
             NamePlaces::Tabled(names) => names.repeat,
+        }
+    }
+
+    /// The place of the first record of a name.
+    pub(crate) fn place(&self, records: &SheetRecords, name: &RecordNameRef<'_>) -> Option<u32>
+        requires no_link { is_link name.now.kind ≡ false }
+        requires names { FindsAll records.now self.now }
+        ensures { result ≡ place_named records.now (name_lent name.now) }
+    {
+        match self {
+            NamePlaces::Hinted(hints) => hints.place(records, name),
+            NamePlaces::Tabled(names) => names.places.get(name).copied(),
         }
     }
 }

@@ -14,8 +14,7 @@ ghost use Rattle.edi_plan.specs.inner.LinkNames.{with_digit, end_number, length_
 
 use crate::name_hints::last_bytes;
 use edi_hash::{KeyNames, NameHash};
-use edi_line::Text;
-use edi_record::{Kind, SheetRecords};
+use edi_record::{Identifier, Kind, SheetRecords};
 use indexmap::IndexMap;
 use std::alloc::{AllocError, Global};
 use std::hash::{Hash, Hasher};
@@ -23,11 +22,11 @@ use std::hash::{Hash, Hasher};
 // What the length of an identifier counts, above its last bytes.
 const LENGTH_UNIT: u64 = 4_294_967_296;
 
-/// The type and the identifier of a record, borrowed from it. Two texts are compared faster than two slices.
+/// The type and the identifier of a record, borrowed from it.
 #[derive(Clone, Copy, PartialEq, Eq)]
 pub(crate) struct RecordNameRef<'a> {
     pub(crate) kind: Kind,
-    pub(crate) rid: &'a Text,
+    pub(crate) rid: &'a Identifier,
 }
 
 // The type is left out: an identifier makes five names at most.

@@ -85,7 +85,7 @@ impl Plan {
         ensures least { IfErr result (λ u. IsRecordRefusal (BreaksReferenceRule schema.now sheet.list) u.fault) }
         ensures earlier { IfErr result (λ u. IsEarlierLinkIfAny schema.now sheet.list u.fault u.earlier) }
     {
-        let Sheet { cse, list } = sheet;
+        let (cse, list) = sheet.into_parts();
         let references = References::among(alloc, &list)?;
         let planned = plan_records(alloc, schema, &references, list)?;
         let places = Places::among(alloc, &planned.list)?;

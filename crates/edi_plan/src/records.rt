@@ -68,7 +68,7 @@ fn attribute_class(schema: &Schema, classes: &mut ClassFinder<'_>, name: &Name) 
 
 /// A text with memory of its own.
 #[inline(never)]
-fn owned(text: &Text) -> Result<Option<Text>, AllocError>
+fn copy_text(text: &Text) -> Result<Option<Text>, AllocError>
     ensures { IfOk result (λ copy. copy ≡ Some text.now) }
 {
     Ok(Some(text.clone()?))
@@ -76,11 +76,11 @@ fn owned(text: &Text) -> Result<Option<Text>, AllocError>
 
 /// A text that may be absent, with memory of its own. Nearly each is absent, and then nothing is made ready for a copy.
 #[inline(always)]
-fn copied(text: &Option<Text>) -> Result<Option<Text>, AllocError>
+fn copy_if_any(text: &Option<Text>) -> Result<Option<Text>, AllocError>
     ensures { IfOk result (λ copy. copy ≡ text.now) }
 {
     match text {
-        Some(text) => owned(text),
+        Some(text) => copy_text(text),
         None => Ok(None),
     }
 }
@@ -101,7 +101,7 @@ fn plan_attribute(
     };
     Ok(PlanAttribute {
         atp: class,
-        tex: copied(&attribute.tex)?,
+        tex: copy_if_any(&attribute.tex)?,
         value: value_of(schema.is_number(class), &attribute.atv)?,
     })
 }
@@ -130,7 +130,7 @@ fn plan_end(target: Target, end: &End) -> Result<PlanEnd, AllocError>
 {
     Ok(PlanEnd {
         target: target.place,
-        sns: copied(end.sns())?,
+        sns: copy_if_any(end.sns())?,
     })
 }
 
@@ -253,7 +253,7 @@ fn is_place(repeat: Option<usize>, place: usize) -> bool
 }
 
 /// A rule that is broken at a place from 0, with the earlier link of which it speaks.
-fn broken(rule: u16, place: usize, earlier: Option<u64>) -> Unplanned
+fn broken_rule(rule: u16, place: usize, earlier: Option<u64>) -> Unplanned
     requires { place < most_records }
     ensures fault { result.fault ≡ RefFault.Broken rule (place + 1) }
     ensures earlier { result.earlier ≡ earlier }
@@ -299,7 +299,7 @@ pub(crate) fn plan_records(
     let mut place = 0;
     while let Some(record) = rest.first() {
         if is_place(references.repeat, place) {
-            return Err(broken(301, place, None));
+            return Err(broken_rule(301, place, None));
         }
         let (own, later) = targets.split_at(record.ends().len());
         let class = classes.class(record.scp());
@@ -317,7 +317,7 @@ pub(crate) fn plan_records(
             Err(Unresolved::Memory(error)) => return Err(Unplanned::from(error)),
             Err(Unresolved::Broken(rule)) => {
                 let earlier = earlier_link(rule, &list, link_role(schema, &record), own);
-                return Err(broken(rule, place, earlier));
+                return Err(broken_rule(rule, place, earlier));
             }
         }
         targets = later;

@@ -3,14 +3,14 @@
 ghost use Rattle.std.specs.Prelude.{◌≡◌, ◌++◌, List, IfOk, IfSome, OnOk, true, false};
 ghost use Rattle.std.specs.List.{AllZip};
 ghost use Rattle.edi_record.specs.LinkEnds.{EndData};
-ghost use Rattle.edi_plan.specs.inner.Names.{name_lent, AreFirstPlaces, IsFirstRepeatedNameIfAny};
+ghost use Rattle.edi_plan.specs.inner.Names.{name_lent};
 ghost use Rattle.edi_plan.specs.inner.Found.{FindsAll};
 ghost use Rattle.edi_plan.specs.PlanOf.{place_named};
 ghost use Rattle.edi_record.specs.Records.{is_link};
 ghost use Rattle.edi_plan.specs.inner.Targets.{target_kind, HasNameAt, IsTargetIfAny, AreTargets};
 
 use crate::name_places::NamePlaces;
-use crate::names::{Names, RecordNameRef, has_name};
+use crate::names::{RecordNameRef, has_name};
 use edi_record::{End, Kind, SheetRecords};
 use std::alloc::{AllocError, Global};
 
@@ -34,33 +34,61 @@ fn kind_coded(code: &[u8]) -> Option<Kind>
     }
 }
 
-/// The places of the records that ends named last, by type. What an end names mostly stands there or just behind, since
-/// links go through a sheet in its order. It decides where a record is looked for first, and never what is found.
+/// The record of a type that an end named last.
+#[derive(Clone, Copy)]
+struct Last {
+    place: u32,
+    /// Whether it stood where the one named before stood, or just behind.
+    is_near: bool,
+}
+
+impl Last {
+    /// None has been named, so that the first record is looked at first.
+    const NONE: Last = Last {
+        place: 0,
+        is_near: true,
+    };
+
+    /// Where to look first for the next, if that has paid.
+    fn hint(self) -> Option<u32> {
+        if self.is_near { Some(self.place) } else { None }
+    }
+
+    /// This record has been named.
+    fn note(&mut self, place: u32) {
+        self.is_near = place.wrapping_sub(self.place) <= 1;
+        self.place = place;
+    }
+}
+
+/// The records that ends named last, by type. What an end names mostly stands there or just behind, where links go
+/// through a sheet in its order. It decides where a record is looked for first, and never what is found.
 #[derive(Clone, Copy)]
 struct LastNamed {
-    node: u32,
-    arc: u32,
-    face: u32,
-    object: u32,
+    node: Last,
+    arc: Last,
+    face: Last,
+    object: Last,
 }
 
 impl LastNamed {
-    /// The first record of the sheet.
-    fn new() -> LastNamed {
+    /// No record has been named.
+    fn none() -> LastNamed {
         LastNamed {
-            node: 0,
-            arc: 0,
-            face: 0,
-            object: 0,
+            node: Last::NONE,
+            arc: Last::NONE,
+            face: Last::NONE,
+            object: Last::NONE,
         }
     }
 
-    fn place(self, kind: Kind) -> u32 {
+    /// Where to look first for a record of a type, if that has paid.
+    fn hint(self, kind: Kind) -> Option<u32> {
         match kind {
-            Kind::Pno => self.node,
-            Kind::Par => self.arc,
-            Kind::Pfe => self.face,
-            Kind::Fea | Kind::Lnk => self.object,
+            Kind::Pno => self.node.hint(),
+            Kind::Par => self.arc.hint(),
+            Kind::Pfe => self.face.hint(),
+            Kind::Fea | Kind::Lnk => self.object.hint(),
         }
     }
 
@@ -70,10 +98,10 @@ impl LastNamed {
             return;
         };
         match kind {
-            Kind::Pno => self.node = place,
-            Kind::Par => self.arc = place,
-            Kind::Pfe => self.face = place,
-            Kind::Fea | Kind::Lnk => self.object = place,
+            Kind::Pno => self.node.note(place),
+            Kind::Par => self.arc.note(place),
+            Kind::Pfe => self.face.note(place),
+            Kind::Fea | Kind::Lnk => self.object.note(place),
         }
     }
 }
@@ -93,42 +121,25 @@ fn place_near(records: &SheetRecords, last: u32, name: &RecordNameRef<'_>) -> Op
     }
 }
 
-/// The place of the first record of a name that is in a table. Where no two records have one name, any of that name is
-/// the first.
-fn tabled_place(
-    records: &SheetRecords,
-    names: &Names<'_>,
-    last: u32,
-    name: &RecordNameRef<'_>,
-) -> Option<u32>
-    requires no_link { is_link name.now.kind ≡ false }
-    requires names { AreFirstPlaces records.now names.now }
-    requires repeat { IsFirstRepeatedNameIfAny records.now names.now.repeat }
-    ensures { result ≡ place_named records.now (name_lent name.now) }
-{
-    if names.repeat.is_none()
-        && let Some(place) = place_near(records, last, name)
-    {
-        return Some(place);
-    }
-    names.places.get(name).copied()
-}
-
-/// The place of the first record of a name.
+/// The place of the first record of a name, which may be the one where to look first or the next. Where no two records
+/// have one name, any of that name is the first.
 fn place_of(
     records: &SheetRecords,
     names: &NamePlaces<'_>,
-    last: u32,
+    hint: Option<u32>,
     name: &RecordNameRef<'_>,
 ) -> Option<u32>
     requires no_link { is_link name.now.kind ≡ false }
     requires names { FindsAll records.now names.now }
     ensures { result ≡ place_named records.now (name_lent name.now) }
 {
-    match names {
-        NamePlaces::Hinted(hints) => hints.place(records, name),
-        NamePlaces::Tabled(names) => tabled_place(records, names, last, name),
+    if let Some(last) = hint
+        && names.repeat().is_none()
+        && let Some(place) = place_near(records, last, name)
+    {
+        return Some(place);
     }
+    names.place(records, name)
 }
 
 /// The node, arc, face or object that an end names.
@@ -146,7 +157,7 @@ fn target_of(
         kind,
         rid: end.rid(),
     };
-    let place = place_of(records, names, last.place(kind), &name)?;
+    let place = place_of(records, names, last.hint(kind), &name)?;
     Some(Target { place, kind })
 }
 
@@ -189,7 +200,7 @@ pub(crate) fn targets(
     ensures { IfOk result (λ targets. AreTargets records.now records.now targets.items) }
 {
     let mut targets = Vec::with_capacity(alloc, count_ends(records))?;
-    let mut last = LastNamed::new();
+    let mut last = LastNamed::none();
     for place in 0..records.len() {
         add_targets(&mut targets, &mut last, records, names, records.ends(place))?;
     }

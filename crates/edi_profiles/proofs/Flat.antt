@@ -6,11 +6,10 @@ use Rattle.edi_line.specs.LineRules.{IsZonesOf}
 use Rattle.edi_line.specs.Refusal.{IsUnbroken}
 use Rattle.edi_line.specs.Zones.{groups_of}
 use Rattle.edi_record.specs.RecordRules.{IsOfKind}
-use Rattle.edi_record.specs.Records.{States, has_points, values}
+use Rattle.edi_record.specs.Records.{States, has_points, values, SheetData}
 use Rattle.edi_record.specs.Texts.{IsPosition}
 use Rattle.edi_record.specs.declared.record.Point.{Point}
 use Rattle.edi_record.specs.declared.record.Record.{Record}
-use Rattle.edi_record.specs.declared.sheet.Sheet.{Sheet}
 use Rattle.edi_record.proofs.TextParts.{place_one}
 use Rattle.edi_schema.specs.Classes.{Classes}
 use Rattle.edi_profiles.specs.Laws.{IsFlatFile, IsFlatGroup}
@@ -22,7 +21,7 @@ use Rattle.edi_profiles.proofs.Transfer.{zip_map}
 pub more_positions : (group : List ZoneData) (r : Record) → HasPositions two_coordinates group r → HasPositions three_coordinates group r
 more_positions group r all = zip_map IsFlatPosition IsPosition (cond (has_points r.kind) (values (codes "COR") group) []) r.points (λ text p flat. flat.0) all
 
-pub more_sheets : (b : List ℕ) (sheet : Sheet) → IsSheetBy two_coordinates b sheet → IsSheetBy three_coordinates b sheet
+pub more_sheets : (b : List ℕ) (sheet : SheetData) → IsSheetBy two_coordinates b sheet → IsSheetBy three_coordinates b sheet
 more_sheets b sheet g = (g.0, g.1, g.2, zip_map (HasPositions two_coordinates) (HasPositions three_coordinates) (groups_of g.0) sheet.list more_positions g.3)
 
 -- a text that is no position is none of two coordinates
@@ -84,7 +83,7 @@ module _ (zones : List ZoneData) (unbroken : IsUnbroken (BreaksRecords two_coord
     flat_records (before ++ g ∷ []) gs rs (cut ∙ sym (append_assoc before (g ∷ []) gs)) states.1 all.1,
   )
 
-pub fewer_sheets : (s : Classes) (b : List ℕ) → RecordsHoldBy two_coordinates s b → (sheet : Sheet) → IsSheetBy three_coordinates b sheet → IsSheetBy two_coordinates b sheet
+pub fewer_sheets : (s : Classes) (b : List ℕ) → RecordsHoldBy two_coordinates s b → (sheet : SheetData) → IsSheetBy three_coordinates b sheet → IsSheetBy two_coordinates b sheet
 fewer_sheets s b held sheet g = (g.0, g.1, g.2, flat_records g.0 (held.1 g.0 g.1) [] (groups_of g.0) sheet.list refl g.2.records g.3)
 
 -- ---- a file whose positions all have two coordinates
@@ -118,5 +117,5 @@ module _ (b : List ℕ) (flat : IsFlatFile b) where
   flat_list (g ∷ gs) (r ∷ rs) flats states all =
       (flat_record g r states.0 (flat_group_holds g flats.0) all.0, flat_list gs rs flats.1 states.1 all.1)
 
-  pub flat_sheets : (sheet : Sheet) → IsSheetBy three_coordinates b sheet → IsSheetBy two_coordinates b sheet
+  pub flat_sheets : (sheet : SheetData) → IsSheetBy three_coordinates b sheet → IsSheetBy two_coordinates b sheet
   flat_sheets sheet g = (g.0, g.1, g.2, flat_list (groups_of g.0) sheet.list (flat g.0 g.1) g.2.records g.3)

@@ -10,14 +10,13 @@ use Rattle.edi_line.specs.inner.Number.{whole_number, fraction_number, number}
 use Rattle.edi_line.proofs.ZonesFound.{zones_of}
 use Rattle.edi_line.proofs.KnownFiles.{unbroken_as, zones_as}
 use Rattle.edi_line.proofs.ZonesSaid.{zones_of_one}
-use Rattle.edi_record.specs.Records.{States}
+use Rattle.edi_record.specs.Records.{States, SheetData}
 use Rattle.edi_record.specs.Rows.{node_group}
 use Rattle.edi_record.specs.Texts.{IsPosition}
 use Rattle.edi_record.specs.inner.Records.{ReadsAsRecord, set_after, value_after, attributes, sns_after, ends, zones_placed}
 use Rattle.edi_record.specs.inner.Texts.{pointer, point_in}
 use Rattle.edi_record.specs.declared.record.Kind.TheVariants.{Pno}
 use Rattle.edi_record.specs.declared.record.Point.{Point}
-use Rattle.edi_record.specs.declared.sheet.Sheet.{Sheet}
 use Rattle.edi_record.proofs.RowsHold.{node_zones, node_said}
 use Rattle.edi_record.proofs.StatesSaid.{states_said}
 use Rattle.edi_record.proofs.TextParts.{place_is, place_one}
@@ -114,8 +113,8 @@ second_stated : ReadsAsRecord second_group (node_of (codes "b") (extra_zone ∷ 
 unfolding number whole_number fraction_number pointer point_in set_after value_after attributes sns_after ends zones_placed
 second_stated = record { type = refl; rid = refl; scp = refl; points = refl; ends = refl; attributes = refl; extras = refl }
 
-abbrev two_nodes : Sheet
-two_nodes = record { cse = None; list = node_of (codes "a") [] ∷ node_of (codes "b") (extra_zone ∷ []) ∷ []; few = lit≤ tt; in_shape = refl }
+abbrev two_nodes : SheetData
+two_nodes = record { cse = None; list = node_of (codes "a") [] ∷ node_of (codes "b") (extra_zone ∷ []) ∷ [] }
 
 states_two : IsSheetOf shared_sheet two_nodes
 states_two = (

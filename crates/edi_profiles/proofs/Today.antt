@@ -5,8 +5,7 @@ use Rattle.edi_line.specs.Zones.{groups_of}
 use Rattle.edi_record.specs.RecordRules.{BreaksRecordRule}
 use Rattle.edi_record.specs.RecordRules.BreaksGroupRule.{bad_point}
 use Rattle.edi_record.specs.RecordRules.HasBadPoint.{no_position}
-use Rattle.edi_record.specs.Records.{States}
-use Rattle.edi_record.specs.declared.sheet.Sheet.{Sheet}
+use Rattle.edi_record.specs.Records.{States, SheetData}
 use Rattle.edi_schema.specs.Classes.{Classes}
 use Rattle.edi_plan.specs.Plans.{PlanData}
 use Rattle.edi_topo.specs.TopologyRules.{BreaksTopologyRule}
@@ -26,10 +25,10 @@ records_now zones rule at (inl h) = h
 records_now zones rule at (inr (e, (before, group, after, cut, place, (kind, is, has, any)))) =
     record { before = before; group = group; after = after; cut = cut; place_is = place; breaks = bad_point e (no_position kind is has any) }
 
-pub sheet_now : (b : List ℕ) (sheet : Sheet) → IsSheetBy today b sheet → IsSheetOf b sheet
+pub sheet_now : (b : List ℕ) (sheet : SheetData) → IsSheetBy today b sheet → IsSheetOf b sheet
 sheet_now b sheet g = (g.0, g.1, g.2)
 
-pub sheet_then : (b : List ℕ) (sheet : Sheet) → IsSheetOf b sheet → IsSheetBy today b sheet
+pub sheet_then : (b : List ℕ) (sheet : SheetData) → IsSheetOf b sheet → IsSheetBy today b sheet
 sheet_then b sheet g = (g.0, g.1, g.2, zip_map States (HasPositions today) (groups_of g.0) sheet.list (λ group r states. states.points) g.2.records)
 
 pub plan_now : (s : Classes) (b : List ℕ) (p : PlanData) → IsPlanBy today s b p → IsPlanOfFile s b p

@@ -3,7 +3,7 @@ use Rattle.std.proofs.Common.{ℕ, List, [], ◌∷◌}
 use Rattle.std.specs.List.{AllZip}
 use Rattle.edi_line.specs.ZoneData.{ZoneData}
 use Rattle.edi_line.specs.LineRules.{IsZonesOf}
-use Rattle.edi_record.specs.declared.sheet.Sheet.{Sheet}
+use Rattle.edi_record.specs.Records.{SheetData}
 use Rattle.edi_schema.specs.Classes.{Classes}
 use Rattle.edi_plan.specs.Plans.{PlanData}
 use Rattle.edi_compare.specs.Rules.{LinesHold}
@@ -32,7 +32,7 @@ module _ (P : Profile) (s : Classes) (b : List ℕ) (accepted : IsAcceptedBy P s
 
   -- a sheet accepted by one profile is accepted by another, whose rules are broken only where those of the one are
   module _ (Q : Profile) (records : (zones : List ZoneData) (rule at : ℕ) → BreaksRecords Q zones rule at → BreaksRecords P zones rule at)
-      (sheets : (sheet : Sheet) → IsSheetBy Q b sheet → IsSheetBy P b sheet)
+      (sheets : (sheet : SheetData) → IsSheetBy Q b sheet → IsSheetBy P b sheet)
       (topology : (p : PlanData) → IsPlanBy Q s b p → (rule at : ℕ) → BreaksTopology Q p rule at → BreaksTopology P p rule at) where
     plan : (p : PlanData) → IsPlanBy Q s b p → IsPlanBy P s b p
     plan p g = (g.0, sheets g.0 g.1, g.2)
@@ -48,8 +48,8 @@ module _ (P : Profile) (s : Classes) (b : List ℕ) (accepted : IsAcceptedBy P s
 module _ (P Q : Profile) (s : Classes) (b : List ℕ)
     (records : (zones : List ZoneData) → IsZonesOf b zones → (rule at : ℕ) → BreaksRecords P zones rule at → BreaksRecords Q zones rule at)
     (back : (zones : List ZoneData) → IsZonesOf b zones → (rule at : ℕ) → BreaksRecords Q zones rule at → BreaksRecords P zones rule at)
-    (sheets : (sheet : Sheet) → IsSheetBy P b sheet → IsSheetBy Q b sheet)
-    (sheets_back : (sheet : Sheet) → IsSheetBy Q b sheet → IsSheetBy P b sheet)
+    (sheets : (sheet : SheetData) → IsSheetBy P b sheet → IsSheetBy Q b sheet)
+    (sheets_back : (sheet : SheetData) → IsSheetBy Q b sheet → IsSheetBy P b sheet)
     (topology : (p : PlanData) (rule at : ℕ) → BreaksTopology P p rule at → BreaksTopology Q p rule at)
     (topology_back : (p : PlanData) (rule at : ℕ) → BreaksTopology Q p rule at → BreaksTopology P p rule at) where
   records_hold : RecordsHoldBy P s b → RecordsHoldBy Q s b

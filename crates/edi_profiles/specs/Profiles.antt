@@ -14,13 +14,12 @@ use Rattle.edi_line.specs.Refusal.{IsUnbroken}
 use Rattle.edi_line.specs.Zones.{groups_of}
 use Rattle.edi_record.specs.Orders.{point_cmp, points_cmp}
 use Rattle.edi_record.specs.RecordRules.{BreaksRecordRule, IsOfKind}
-use Rattle.edi_record.specs.Records.{StatesSheet, has_points, values}
+use Rattle.edi_record.specs.Records.{StatesSheet, has_points, values, SheetData}
 use Rattle.edi_record.specs.Texts.{IsPosition}
 use Rattle.edi_record.specs.declared.record.Kind.{Kind}
 use Rattle.edi_record.specs.declared.record.Kind.TheVariants.{Pno, Par, Pfe, Fea, Lnk}
 use Rattle.edi_record.specs.declared.record.Point.{Point}
 use Rattle.edi_record.specs.declared.record.Record.{Record}
-use Rattle.edi_record.specs.declared.sheet.Sheet.{Sheet}
 use Rattle.edi_schema.specs.Classes.{Classes}
 use Rattle.edi_schema.specs.Sorted.{NeverFalls}
 use Rattle.edi_plan.specs.Orders.{attribute_cmp}
@@ -97,13 +96,13 @@ module _ (P : Profile) where
   HasPositions group r = AllZip P.position (if has_points r.kind then values (codes "COR") group else []) r.points
 
   -- the sheet that a file states, and its plan
-  abbrev pub IsSheetBy : List ℕ → Sheet → Type 0
+  abbrev pub IsSheetBy : List ℕ → SheetData → Type 0
   IsSheetBy b sheet =
       (zones : List ZoneData) × IsZonesOf b zones × StatesSheet zones sheet
       × AllZip HasPositions (groups_of zones) sheet.list
 
   abbrev pub IsPlanBy : Classes → List ℕ → PlanData → Type 0
-  IsPlanBy s b p = (sheet : Sheet) × IsSheetBy b sheet × IsPlanOf s sheet p
+  IsPlanBy s b p = (sheet : SheetData) × IsSheetBy b sheet × IsPlanOf s sheet p
 
   -- 403 by the profile: the node repeats an earlier one
   abbrev pub RepeatsAt : PlanData → ℕ → Type 0
@@ -119,7 +118,7 @@ module _ (P : Profile) where
 
   abbrev pub ReferencesHoldBy : Classes → List ℕ → Type 0
   ReferencesHoldBy s b =
-      RecordsHoldBy s b × ((sheet : Sheet) → IsSheetBy b sheet → IsUnbroken (BreaksReferenceRule s sheet.list))
+      RecordsHoldBy s b × ((sheet : SheetData) → IsSheetBy b sheet → IsUnbroken (BreaksReferenceRule s sheet.list))
 
   abbrev pub TopologyHoldsBy : Classes → List ℕ → Type 0
   TopologyHoldsBy s b = ReferencesHoldBy s b × ((p : PlanData) → IsPlanBy s b p → IsUnbroken (BreaksTopology p))
@@ -129,8 +128,8 @@ module _ (P : Profile) where
     of_lines : BreaksLineRule b rule at → BreaksBy s b rule at
     of_records : (zones : List ZoneData) → LinesHold s b → IsZonesOf b zones → BreaksRecords zones rule at
         → BreaksBy s b rule at
-    of_references : (sheet : Sheet) → RecordsHoldBy s b → IsSheetBy b sheet → BreaksReferenceRule s sheet.list rule at
-        → BreaksBy s b rule at
+    of_references : (sheet : SheetData) → RecordsHoldBy s b → IsSheetBy b sheet
+        → BreaksReferenceRule s sheet.list rule at → BreaksBy s b rule at
     of_topology : (p : PlanData) → ReferencesHoldBy s b → IsPlanBy s b p → BreaksTopology p rule at
         → BreaksBy s b rule at
     of_objects : (p : PlanData) → TopologyHoldsBy s b → IsPlanBy s b p → BreaksObjectRule p rule at

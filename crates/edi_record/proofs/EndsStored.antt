@@ -11,7 +11,7 @@ use Rattle.edi_record.specs.inner.Records.{sns_after, ends}
 use Rattle.edi_record.specs.inner.RecordRules.{kind_in, count_until, repeats_code, has_bad_end}
 use Rattle.edi_record.specs.inner.Stored.{has_stray, sns_with, sns_come, end_with, ends_with, ended_with, bad_sns_with, StoresEnds, KeptEnds}
 use Rattle.edi_record.specs.declared.ends.OpenEnd.{OpenEnd}
-use Rattle.edi_record.specs.declared.pointer.Pointer.{Pointer}
+use Rattle.edi_record.specs.declared.read_pointer.ReadPointer.{ReadPointer}
 use Rattle.edi_record.specs.declared.record.Kind.{Kind}
 use Rattle.edi_record.specs.LinkEnds.{EndData}
 use Rattle.edi_record.proofs.AttributesStored.{code_is, some_joined, none_is, one_more}
@@ -58,14 +58,14 @@ no_senses z zs e = rw e refl
 no_stray : (z : ZoneData) (zs : List ZoneData) → points_at z ≡ true → has_stray (z ∷ zs) ≡ false
 no_stray z zs e = rw e refl
 
-pub pointer_taken : (old new : KeptEnds) (p : Pointer) (z : ZoneData) (left group : List ZoneData) (text : List ℕ) → points_at z ≡ true → z.value ≡ text → Some (shown p) ≡ pointer text
+pub pointer_taken : (old new : KeptEnds) (p : ReadPointer) (z : ZoneData) (left group : List ZoneData) (text : List ℕ) → points_at z ≡ true → z.value ≡ text → Some (shown p.parts) ≡ pointer text
     → new.is_broken ≡ old.is_broken → new.opened ≡ Some (record { pointer = p; sense = None }) → new.done ≡ old.done ++ ended_with old.opened
     → StoresEnds old (z ∷ left) group → StoresEnds new left group
 pointer_taken old new p z left group text e same read same_broken opened done h = record {
   broken = λ b. h.broken (sym same_broken ∙ b);
   made = λ b.
       ended_in (z ∷ left) group old.opened old.done new.done (sns_stops z left e) (h.made (sym same_broken ∙ b)) done
-      ∙ ap (λ t. map Some new.done ++ t) (end_read z left text (shown p) e (sym same) read)
+      ∙ ap (λ t. map Some new.done ++ t) (end_read z left text (shown p.parts) e (sym same) read)
       ∙ ap (λ o. map Some new.done ++ ends_with o left) (sym opened);
   sns = λ b. h.sns (sym same_broken ∙ b) ∙ sns_over (z ∷ left) old.opened (no_senses z left e) (no_stray z left e) ∙ here ∙ ap (λ o. bad_sns_with o left) (sym opened);
 }
@@ -118,7 +118,7 @@ sense_taken old new o n z left group e was no_sense same_broken same_done is cla
     there : ends_with (Some n) left ≡ Some (end_with o (Some z.value)) ∷ ends left
     there =
         ap (λ s. Some (end_with n (sns_with s left)) ∷ ends left) sense
-        ∙ ap (λ p. (let x : EndData = record { lot = p.lot.now; subset = p.subset.now; target = record { rty = p.rty.now; rid = p.rid.now }; sns = Some z.value } in Some x ∷ ends left)) class
+        ∙ ap (λ p. (let x : EndData = record { lot = p.parts.lot.now; subset = p.parts.subset.now; target = record { rty = p.parts.rty.now; rid = p.parts.rid.now }; sns = Some z.value } in Some x ∷ ends left)) class
 
     once : bad_sns_with (Some o) (z ∷ left) ≡ bad_sns_with (Some n) left
     once = rw (no_sense, some, senses_more z left e, skips_repeat z left (sense_only z e), one_more (senses_left left)) refl

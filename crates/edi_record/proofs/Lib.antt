@@ -26,6 +26,9 @@ pub mod StatesSaid
 pub mod RulesSaid
 pub mod ReadZones
 pub mod ReadRecords
+pub mod SheetsThere
+pub mod FewGroups
+pub mod WholeSheets
 pub mod Unnumbered
 pub mod Sound
 pub mod ValueOrder
@@ -36,3 +39,4 @@ pub mod GoneThrough
 pub mod StatedAt
 pub mod GroupRules
 pub mod RecordsBroken
+mod SharedParts

@@ -117,7 +117,7 @@ no_end text sns = go (pointer text) refl
     go (Some p) e = rw e refl
     go None e = rw e refl
 
-ends_lack : (g : List ZoneData) → list_any is_none (ends g) ≡ some_no_pointer (values (codes "FTP") g)
+pub ends_lack : (g : List ZoneData) → list_any is_none (ends g) ≡ some_no_pointer (values (codes "FTP") g)
 unfolding ends
 ends_lack [] = refl
 ends_lack (z ∷ zs) = go (points_at z) refl (ends_lack zs)

@@ -18,7 +18,7 @@ use Rattle.edi_line.proofs.NumberRead.{number_is}
 use Rattle.edi_record.specs.Texts.{PointerText}
 use Rattle.edi_record.specs.inner.Texts.{parts, pointer_of, pointer, class_of, flat_place, high_place, point_of, point_in}
 use Rattle.edi_record.specs.Shapes.{may_have_points, may_have_ends}
-use Rattle.edi_record.specs.Records.{values, has_points, is_link, opens, closes, points_at, is_known, may_be_number, StatesSheet}
+use Rattle.edi_record.specs.Records.{values, has_points, is_link, opens, closes, points_at, is_known, may_be_number, StatesSheet, SheetData}
 use Rattle.edi_record.specs.inner.Records.{set_after, value_after, attribute, attributes, sns_after, end_with_sense, ends, Placed, is_open_after, zones_placed, is_extra, value_of, extra, ReadsAsRecord}
 use Rattle.edi_record.specs.RecordRules.{BreaksRecordRule, just_one, is_identifier, has_no_identifier}
 use Rattle.edi_record.specs.inner.RecordRules.{kind_in, has_bad_point, has_bad_end, is_unknown_pointer, has_unknown_pointer, record_tests, repeats_code, some_no_pointer, FailsTest}
@@ -34,7 +34,6 @@ use Rattle.edi_record.specs.declared.record.Extra.{Extra}
 use Rattle.edi_record.specs.declared.record.Value.TheVariants.{Number, Bytes}
 use Rattle.edi_record.specs.LinkEnds.{EndData}
 use Rattle.edi_record.specs.declared.record.Point.{Point}
-use Rattle.edi_record.specs.declared.sheet.Sheet.{Sheet}
 use Rattle.edi_line.proofs.ZonesSaid.{zones_read}
 use Rattle.edi_record.proofs.StatesSaid.{all_read}
 use Rattle.edi_record.proofs.RulesSaid.{records_pass}
@@ -292,24 +291,24 @@ extras_read kind before (z ∷ zs) h = go (extras_read kind (is_open_after befor
 -- ---- the rules of records
 
 -- no rule is broken in the group
-abbrev IsKept : List ZoneData → Type 0
+abbrev pub IsKept : List ZoneData → Type 0
 IsKept group = (rule : ℕ) → ¬ (BreaksTest (record_tests group) rule)
 
 kept_each : (groups : List (List ZoneData)) → ((before : List (List ZoneData)) (group : List ZoneData) (after : List (List ZoneData)) → groups ≡ before ++ group ∷ after → IsKept group) → AllByRecursion IsKept groups
 kept_each [] k = tt
 kept_each (g ∷ gs) k = (k [] g gs refl, kept_each gs (λ before group after e. k (g ∷ before) group after (ap (λ t. g ∷ t) e)))
 
-all_kept : (zones : List ZoneData) → IsUnbroken (FailsTest zones) → AllByRecursion IsKept (groups_of zones)
+pub all_kept : (zones : List ZoneData) → IsUnbroken (FailsTest zones) → AllByRecursion IsKept (groups_of zones)
 all_kept zones unbroken =
     kept_each (groups_of zones) (λ before group after e rule b. unbroken rule (length before + 1) (record { before = before; group = group; after = after; cut = e; place_is = refl; breaks = b }))
 
-identifier_kept : (group : List ZoneData) → IsKept group → has_no_identifier group ≡ false
+pub identifier_kept : (group : List ZoneData) → IsKept group → has_no_identifier group ≡ false
 identifier_kept group k = false_from_ne_true (has_no_identifier group) (λ e. k 202 (inr (inl (refl, e))))
 
-point_kept : (group : List ZoneData) → IsKept group → has_bad_point group ≡ false
+pub point_kept : (group : List ZoneData) → IsKept group → has_bad_point group ≡ false
 point_kept group k = false_from_ne_true (has_bad_point group) (λ e. k 206 (inr (inr (inr (inr (inr (inl (refl, e))))))))
 
-end_kept : (group : List ZoneData) → IsKept group → has_bad_end group ≡ false
+pub end_kept : (group : List ZoneData) → IsKept group → has_bad_end group ≡ false
 end_kept group k = false_from_ne_true (has_bad_end group) (λ e. k 207 (inr (inr (inr (inr (inr (inr (inl (refl, e)))))))))
 
 pointer_kept : (group : List ZoneData) → IsKept group → has_unknown_pointer group ≡ false
@@ -373,7 +372,7 @@ two_or_more n e = le-leb 2 n (ltb-false n 2 e)
 none_counted : {X : Type 0} (xs : List X) → [] ≡ map Some xs → eqb (length xs) 0 ≡ true
 none_counted xs e = ap (λ t. eqb (length t) 0) (none_of xs e)
 
-shape_read : (kind : Kind) (group : List ZoneData) (ps : List Point) (es : List EndData) → kind_in group ≡ Some kind → cond (has_points kind) (map point_in (values (codes "COR") group)) [] ≡ map Some ps
+pub shape_read : (kind : Kind) (group : List ZoneData) (ps : List Point) (es : List EndData) → kind_in group ≡ Some kind → cond (has_points kind) (map point_in (values (codes "COR") group)) [] ≡ map Some ps
     → cond (is_link kind) (ends group) [] ≡ map Some es → has_bad_point group ≡ false → has_bad_end group ≡ false → (may_have_points kind (length ps) && may_have_ends kind (length es)) ≡ true
 shape_read Pno group ps es k p e bad_point bad_end =
     let count : length (values (codes "COR") group) ≡ length ps = sym (length-map (values (codes "COR") group) point_in) ∙ same_length (map point_in (values (codes "COR") group)) ps p in
@@ -505,7 +504,7 @@ charset_line (z ∷ zs) h = go (has_code (codes "CSE") z) (charset_line zs h.1)
     go false more = more
 
 -- What a file states can be printed.
-pub sheet_read : (bytes : List ℕ) (zones : List ZoneData) (sheet : Sheet) → length bytes < 2 ^ 64 → IsZonesOf bytes zones → IsUnbroken (BreaksLineRule bytes)
+pub sheet_read : (bytes : List ℕ) (zones : List ZoneData) (sheet : SheetData) → length bytes < 2 ^ 64 → IsZonesOf bytes zones → IsUnbroken (BreaksLineRule bytes)
     → StatesSheet zones sheet → IsUnbroken (BreaksRecordRule zones) → IsPrintableSheet sheet
 sheet_read bytes zones sheet long are lines states unbroken =
     let of = zones_read bytes zones are in

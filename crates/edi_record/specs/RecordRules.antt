@@ -14,8 +14,7 @@ use Rattle.edi_record.specs.declared.record.Point.{Point}
 -- there is just one, and it passes the test
 abbrev pub just_one : (List ℕ → Bool) → List (List ℕ) → Bool
 just_one test (text ∷ []) = test text
-just_one test [] = false
-just_one test (text ∷ other ∷ texts) = false
+just_one test _ = false
 
 -- 1 to 255 bytes, and no semicolon
 abbrev pub is_identifier : List ℕ → Bool

@@ -10,30 +10,24 @@ use Rattle.edi_record.specs.Bytes.{letter_n, letter_r}
 use Rattle.edi_record.specs.Shapes.{kind_code}
 use Rattle.edi_record.specs.Texts.{IsPointer, PointsTo, IsPosition}
 use Rattle.edi_record.specs.declared.record.Kind.{Kind}
-use Rattle.edi_record.specs.declared.record.Kind.TheVariants.{Pno, Par, Pfe, Fea, Lnk}
+use Rattle.edi_record.specs.declared.record.Kind.TheVariants.{Pno, Par, Lnk}
 use Rattle.edi_record.specs.declared.record.Record.{Record}
 use Rattle.edi_record.specs.declared.record.Attribute.{Attribute}
 use Rattle.edi_record.specs.declared.record.Extra.{Extra}
 use Rattle.edi_record.specs.declared.record.Value.{Value}
 use Rattle.edi_record.specs.declared.record.Value.TheVariants.{Number, Bytes}
 use Rattle.edi_record.specs.LinkEnds.{EndData}
-use Rattle.edi_record.specs.declared.sheet.Sheet.{Sheet}
 
 -- nodes and arcs
 abbrev pub has_points : Kind → Bool
 has_points Pno = true
 has_points Par = true
-has_points Pfe = false
-has_points Fea = false
-has_points Lnk = false
+has_points _ = false
 
 -- the type of links
 abbrev pub is_link : Kind → Bool
-is_link Pno = false
-is_link Par = false
-is_link Pfe = false
-is_link Fea = false
 is_link Lnk = true
+is_link _ = false
 
 -- the values of the zones with a code, in their order
 abbrev pub values : List ℕ → List ZoneData → List (List ℕ)
@@ -89,9 +83,8 @@ known_anywhere =
 abbrev pub known_in : Kind → List (List ℕ)
 known_in Pno = codes "COR" ∷ []
 known_in Par = codes "COR" ∷ codes "PTC" ∷ []
-known_in Pfe = []
-known_in Fea = []
 known_in Lnk = codes "FTC" ∷ codes "FTP" ∷ codes "SNS" ∷ []
+known_in _ = []
 
 -- the code is known in records of this type
 abbrev pub is_known : Kind → List ℕ → Bool
@@ -130,8 +123,13 @@ pub record States (group : List ZoneData) (r : Record) : Type 0 where
   pub attributes : AreMadeFrom (λ front z. opens z ≡ true) IsAttributeAt [] group r.attributes
   pub extras : AreMadeFrom (IsExtraAt r.kind) IsExtraOf [] group r.extras
 
+-- a sheet: its character set, if it states one, and its records in file order
+pub record SheetData : Type 0 where
+  pub cse : Option (List ℕ)
+  pub list : List Record
+
 -- the zones of a file state the records of a sheet, in their order
-pub record StatesSheet (zones : List ZoneData) (sheet : Sheet) : Type 0 where
+pub record StatesSheet (zones : List ZoneData) (sheet : SheetData) : Type 0 where
   pub cse : sheet.cse ≡ option_map (λ e. e.value) (charset_of zones)
   pub records : AllZip States (groups_of zones) sheet.list
 

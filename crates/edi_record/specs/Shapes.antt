@@ -36,6 +36,7 @@ may_have_ends Pfe n = nat_eq n 0
 may_have_ends Fea n = nat_eq n 0
 may_have_ends Lnk n = nat_le 2 n
 
+-- a record has the points and the ends of its type
 abbrev pub is_in_shape : Record → Bool
 is_in_shape r = may_have_points r.kind (length r.points) && may_have_ends r.kind (length r.ends)
 

@@ -71,5 +71,6 @@ third_text (Some z) = signed_text z ++ semicolon ∷ []
 unfoldable pub point_text : Point → List ℕ
 point_text p = signed_text p.x ++ semicolon ∷ (signed_text p.y ++ semicolon ∷ third_text p.z)
 
+-- the parts of a pointer that was read
 abbrev pub shown : Pointer → PointerText
 shown p = record { lot = p.lot.now; subset = p.subset.now; rty = p.rty.now; rid = p.rid.now }

@@ -13,3 +13,5 @@ pub mod BlockLists
 pub mod SheetRest
 pub mod GroupRules
 pub mod AllBroken
+pub mod SharedParts
+pub mod Identifiers

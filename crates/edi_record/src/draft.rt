@@ -20,13 +20,14 @@ use crate::ends::Ends;
 use crate::extras::Extras;
 use crate::fault::GroupFault;
 use crate::groups::is_identifier;
+use crate::identifier::Identifier;
 use crate::only::Only;
-use crate::pointer::Pointer;
 use crate::points::Points;
+use crate::read_pointer::ReadPointer;
 use crate::record::Kind;
 use crate::record_parts::{RecordHead, RecordParts};
 use crate::role::{ZoneRole, role_of};
-use edi_line::{Text, Zone};
+use edi_line::Zone;
 use std::alloc::{AllocError, Global};
 
 /// What is stored of the zones of a record that have come, each looked at once, beside its parts. The zones own what
@@ -118,11 +119,7 @@ impl<'a> Draft<'a> {
     /// The record but for its parts, of which all zones have come, or the least of the rules 202 to 208 that it breaks.
     /// The draft stays where it is, and its parts are in lists already: to move all of them at each step took some 300
     /// instructions a record.
-    pub(crate) fn finish(
-        &mut self,
-        alloc: Global,
-        parts: &mut RecordParts,
-    ) -> Result<RecordHead, GroupFault>
+    pub(crate) fn finish(&mut self, parts: &mut RecordParts) -> Result<RecordHead, GroupFault>
         ensures states { IfOk result (λ h. (group : List ZoneData) → length (values (codes "RTY") group) ≡ 1
             → kind_in group ≡ Some self.old.kind → StoresRecord (kept self.old parts.old) [] group
             → ReadsAsRecord group (whole h parts.new)) }
@@ -151,7 +148,7 @@ impl<'a> Draft<'a> {
         self.extras.finish()?;
         Ok(RecordHead {
             kind: self.kind,
-            rid: Text::from_slice(alloc, rid)?,
+            rid: Identifier::of(&mut parts.texts, rid)?,
             scp: parts.texts.class(&class)?,
         })
     }
@@ -171,15 +168,15 @@ fn identifier_of(stored: Only<'_>) -> Option<&[u8]>
 }
 
 /// The pointer to the class of a record, or none where rule 203 is broken.
-fn class_pointer(stored: Only<'_>) -> Option<Pointer<'_>>
+fn class_pointer(stored: Only<'_>) -> Option<ReadPointer<'_>>
     ensures { MatchOption result ((all : List (List ℕ)) → AreTexts stored.entry [] all
         → just_one (λ text. is_some (pointer text)) all ≡ false)
         (λ p. (all : List (List ℕ)) → AreTexts stored.entry [] all
         → (just_one (λ text. is_some (pointer text)) all ≡ true)
-        × (map class_of all ≡ Some (record { rty = p.rty.now; rid = p.rid.now }) ∷ [])) }
+        × (map class_of all ≡ Some (record { rty = p.parts.rty.now; rid = p.parts.rid.now }) ∷ [])) }
 {
     match stored {
-        Only::One(text) => Pointer::read(text),
+        Only::One(text) => ReadPointer::read(text),
         _ => None,
     }
 }

@@ -2,6 +2,7 @@
 
 ghost use Rattle.std.specs.Prelude.{◌≡◌};
 
+use crate::identifier::Identifier;
 use crate::shared_parts::PointerStart;
 use edi_line::Text;
 use std::marker::Model;
@@ -11,7 +12,7 @@ use std::sync::Arc;
 /// than records. Contracts see the texts alone.
 pub struct End {
     pub(crate) start: Arc<PointerStart>,
-    pub(crate) rid: Text,
+    pub(crate) rid: Identifier,
     pub(crate) sns: Option<Text>,
 }
 
@@ -63,7 +64,7 @@ impl End {
     }
 
     /// The identifier of the record that it names.
-    pub fn rid(&self) -> &Text
+    pub fn rid(&self) -> &Identifier
         ensures { result.now ≡ self.now.target.rid }
     {
         &self.rid

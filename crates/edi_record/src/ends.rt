@@ -13,15 +13,16 @@ ghost use Rattle.edi_record.specs.LinkEnds.{EndData};
 use crate::attributes::copied;
 use crate::end::End;
 use crate::fault::GroupFault;
+use crate::identifier::Identifier;
 use crate::long_texts::LongTexts;
-use crate::pointer::Pointer;
+use crate::read_pointer::ReadPointer;
 use crate::record::Kind;
 use std::alloc::{AllocError, Global};
 
 /// An end whose SNS may still come. Its pointer and its SNS are borrowed from the zones.
 #[derive(Clone, Copy)]
 pub(crate) struct OpenEnd<'a> {
-    pointer: Pointer<'a>,
+    pointer: ReadPointer<'a>,
     sense: Option<&'a [u8]>,
 }
 
@@ -29,15 +30,15 @@ impl<'a> OpenEnd<'a> {
     /// The end, whatever its texts are.
     fn end(self, texts: &mut LongTexts) -> Result<End, AllocError>
         ensures { IfOk result (λ e. e ≡ record {
-          lot = self.entry.pointer.lot.now;
-          subset = self.entry.pointer.subset.now;
-          target = record { rty = self.entry.pointer.rty.now; rid = self.entry.pointer.rid.now };
+          lot = self.entry.pointer.parts.lot.now;
+          subset = self.entry.pointer.parts.subset.now;
+          target = record { rty = self.entry.pointer.parts.rty.now; rid = self.entry.pointer.parts.rid.now };
           sns = option_map (λ s. s.now) self.entry.sense;
         }) }
     {
         Ok(End {
             start: texts.start(&self.pointer)?,
-            rid: texts.text(self.pointer.rid)?,
+            rid: Identifier::of(texts, self.pointer.parts.rid)?,
             sns: copied(texts.alloc, self.sense)?,
         })
     }
@@ -71,7 +72,7 @@ fn push_end(
         return push_with_sense(ends, texts, opened);
     }
     ends.reserve(1)?;
-    let rid = texts.text(opened.pointer.rid)?;
+    let rid = Identifier::of(texts, opened.pointer.parts.rid)?;
     let start = texts.start(&opened.pointer)?;
     ends.push_reserved(End {
         start,
@@ -124,7 +125,7 @@ impl<'a> Ends<'a> {
             (kept_ends self.new done.new.items)) }
     {
         self.close(texts, done)?;
-        match Pointer::read(text) {
+        match ReadPointer::read(text) {
             Some(pointer) => {
                 self.opened = Some(OpenEnd {
                     pointer,

@@ -15,6 +15,7 @@ pub mod fault;
 mod flat_lists;
 mod group_rules;
 pub mod groups;
+pub mod identifier;
 pub mod laws;
 pub mod list;
 mod long_texts;
@@ -24,6 +25,7 @@ mod only;
 mod part_lists;
 pub mod pointer;
 mod points;
+mod read_pointer;
 pub mod reading;
 pub mod record;
 mod record_parts;
@@ -34,6 +36,7 @@ pub mod sheet;
 pub mod sheet_records;
 pub mod sheet_rest;
 mod stating;
+mod words;
 
 pub use any_record::AnyRecordRef;
 pub use blocks::Blocks;
@@ -42,14 +45,15 @@ pub use counts::is_count;
 pub use end::End;
 pub use fault::{RecordFault, SheetFault};
 pub use groups::{first_value, group_here, lacks_identifier};
+pub use identifier::Identifier;
 pub use list::{NoObserver, read_sheet, read_sheet_from, read_sheet_with};
 pub use name::Name;
 pub use pointer::{Pointer, texts_are_unique};
 pub use points::is_position;
 pub use reading::{
     known_files_are_read, printed_records_break_no_rule, printed_sheets_are_sound,
-    read_sheets_are_printable, records, records_are_read_again, records_are_unique,
-    sheets_are_printable, stated_records_have_names,
+    read_sheets_are_printable, read_sheets_are_whole, records, records_are_read_again,
+    records_are_unique, sheets_are_printable, stated_records_have_names,
 };
 pub use record::{Attribute, Extra, Kind, Point, Record, Value};
 pub use record_ref::RecordRef;

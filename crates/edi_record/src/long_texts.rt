@@ -1,22 +1,17 @@
 //! Texts that come again: long ones, and the starts of pointers and the classes that many share.
 
-ghost use Rattle.std.specs.Prelude.{◌≡◌, ◌<◌, ◌≤◌, length, IfOk, OnOk};
+ghost use Rattle.std.specs.Prelude.{◌≡◌, ◌<◌, ◌≤◌, length, IfOk};
 
 use crate::name::Name;
-use crate::pointer::Pointer;
+use crate::read_pointer::ReadPointer;
 use crate::shared_parts::{PointerStart, SharedParts};
+use crate::words::{SPREAD, last_word};
 use edi_line::Text;
 use std::alloc::{AllocError, Global};
 use std::sync::Arc;
 
 // How many long texts are kept.
 const SLOTS: usize = 1024;
-
-// How many bytes at the end of a text choose its slot.
-const LAST: usize = 8;
-
-// An odd number of 64 bits, by which the bytes that choose a slot are spread.
-const SPREAD: u64 = 0x9E37_79B9_7F4A_7C15;
 
 // How far the spread bytes are shifted, so that the number of a slot is left.
 const SHIFT: u32 = 54;
@@ -38,12 +33,7 @@ fn slot_of(text: &[u8]) -> usize
     requires { 8 ≤ length text.now }
     ensures { result < 1024 }
 {
-    let (_, last) = text.split_at(text.len() - LAST);
-    let [a, b, c, d, e, f, g, h] = last else {
-        return 0;
-    };
-    let number = u64::from_le_bytes([*a, *b, *c, *d, *e, *f, *g, *h]);
-    (number.wrapping_mul(SPREAD) >> SHIFT) as usize
+    (last_word(text).wrapping_mul(SPREAD) >> SHIFT) as usize
 }
 
 impl LongTexts {
@@ -77,17 +67,20 @@ impl LongTexts {
     }
 
     /// The start of a pointer.
-    pub(crate) fn start(&mut self, pointer: &Pointer<'_>) -> Result<Arc<PointerStart>, AllocError>
-        ensures { IfOk result (λ start. start.value
-            ≡ record { lot = pointer.now.lot.now; subset = pointer.now.subset.now; rty = pointer.now.rty.now }) }
+    pub(crate) fn start(
+        &mut self,
+        pointer: &ReadPointer<'_>,
+    ) -> Result<Arc<PointerStart>, AllocError>
+        ensures { IfOk result (λ start. (start.value.lot ≡ pointer.now.parts.lot.now)
+            × (start.value.subset ≡ pointer.now.parts.subset.now) × (start.value.rty ≡ pointer.now.parts.rty.now)) }
     {
         self.starts.part(self.alloc, pointer)
     }
 
     /// The name of the class that a pointer names.
-    pub(crate) fn class(&mut self, pointer: &Pointer<'_>) -> Result<Arc<Name>, AllocError>
+    pub(crate) fn class(&mut self, pointer: &ReadPointer<'_>) -> Result<Arc<Name>, AllocError>
         ensures { IfOk result (λ class. class.value
-            ≡ record { rty = pointer.now.rty.now; rid = pointer.now.rid.now }) }
+            ≡ record { rty = pointer.now.parts.rty.now; rid = pointer.now.parts.rid.now }) }
     {
         self.classes.part(self.alloc, pointer)
     }

@@ -15,6 +15,7 @@ ghost use Rattle.edi_record.specs.Records.{States, StatesSheet, IsValueOf};
 ghost use Rattle.edi_record.specs.Rows.{line, one_node, the_node, node_group};
 ghost use Rattle.edi_record.specs.inner.Shapes.{AreInShape};
 ghost use Rattle.edi_record.specs.Sound.{PrintedSheetsAreSound};
+ghost use Rattle.edi_record.specs.Whole.{ReadSheetsAreWhole};
 ghost use Rattle.edi_record.specs.inner.RecordRules.{FailsTest};
 ghost use Rattle.edi_record.specs.inner.Records.{ReadsAsRecord};
 ghost use Rattle.edi_record.specs.declared.record.Record.{Record};
@@ -115,6 +116,12 @@ pub fn sheets_are_printable()
 /// What was read from a file that breaks no rule can be printed and read again.
 pub fn read_sheets_are_printable()
     ensures { ReadSheetsArePrintable }
+{}
+
+/// What was read from a file that breaks no rule has no more records than a file may have, each with the points and the
+/// ends of its type.
+pub fn read_sheets_are_whole()
+    ensures { ReadSheetsAreWhole }
 {}
 
 /// What is printed of such a sheet breaks no rule of lines and of records.

@@ -4,17 +4,17 @@ ghost use Rattle.edi_record.specs.inner.RecordParts.{AreEmpty};
 
 use crate::end::End;
 use crate::flat_lists::empty;
+use crate::identifier::Identifier;
 use crate::long_texts::LongTexts;
 use crate::name::Name;
 use crate::record::{Attribute, Extra, Kind, Point};
-use edi_line::Text;
 use std::alloc::Global;
 use std::sync::Arc;
 
 /// A record but for its parts. It shares the name of its class with the other records that have the same.
 pub(crate) struct RecordHead {
     pub(crate) kind: Kind,
-    pub(crate) rid: Text,
+    pub(crate) rid: Identifier,
     pub(crate) scp: Arc<Name>,
 }
 

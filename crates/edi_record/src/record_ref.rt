@@ -9,14 +9,13 @@ use crate::end::End;
 use crate::name::Name;
 use crate::record::{Attribute, Extra, Kind, Point, Record};
 use crate::record_parts::RecordHead;
-use edi_line::Text;
 use std::marker::Model;
 
 /// A record, borrowed. Contracts see the record.
 #[derive(Drop)]
 pub struct RecordRef<'a> {
     pub(crate) kind: Kind,
-    pub(crate) rid: &'a Text,
+    pub(crate) rid: &'a [u8],
     pub(crate) scp: &'a Name,
     pub(crate) points: &'a [Point],
     pub(crate) ends: &'a [End],
@@ -47,7 +46,7 @@ impl<'a> RecordRef<'a> {
     {
         RecordRef {
             kind: found.head.kind,
-            rid: &found.head.rid,
+            rid: found.head.rid.as_slice(),
             scp: &found.head.scp,
             points: found.points,
             ends: found.ends,
@@ -67,7 +66,7 @@ impl<'a> RecordRef<'a> {
     pub fn rid(&self) -> &'a [u8]
         ensures { result.now ≡ self.now.rid }
     {
-        self.rid.as_slice()
+        self.rid
     }
 
     /// The name of its class.
@@ -113,7 +112,7 @@ impl Record {
     {
         RecordRef {
             kind: self.kind,
-            rid: &self.rid,
+            rid: self.rid.as_slice(),
             scp: &self.scp,
             points: self.points.as_slice(),
             ends: self.ends.as_slice(),

@@ -2,9 +2,11 @@
 
 ghost use Rattle.std.specs.Prelude.{◌≡◌, ◌<◌, IfOk, true};
 ghost use Rattle.edi_record.specs.Texts.{PointerText, shown};
+ghost use Rattle.edi_record.specs.inner.SharedParts.{IsStart};
 
 use crate::name::Name;
-use crate::pointer::Pointer;
+use crate::read_pointer::ReadPointer;
+use crate::words::{LAST, SPREAD, first_word, last_word};
 use edi_line::Text;
 use std::alloc::{AllocError, Global};
 use std::sync::Arc;
@@ -12,34 +14,39 @@ use std::sync::Arc;
 // How many parts of a sort are kept.
 const SLOTS: usize = 64;
 
+// How far the spread bytes are shifted, so that the number of a slot is left.
+const SHIFT: u32 = 58;
+
 /// A part that many pointers of a sheet have in common.
 pub(crate) trait SharedPart {
     /// It is this part of a pointer with these texts.
     ghost is_part: { Self → PointerText → Type 0 };
 
-    /// The slot of that part of a pointer, by few of its bytes.
-    fn slot(pointer: &Pointer<'_>) -> usize
-        ensures { result < 64 };
+    /// The bytes of a pointer by which its slot is chosen.
+    fn bytes<'a>(pointer: &ReadPointer<'a>) -> &'a [u8];
 
     /// Whether it is that part of a pointer.
-    fn is_of(&self, pointer: &Pointer<'_>) -> bool
-        ensures { result ≡ true → is_part self.now (shown pointer.now) };
+    fn is_of(&self, pointer: &ReadPointer<'_>) -> bool
+        ensures { result ≡ true → is_part self.now (shown pointer.now.parts) };
 
     /// That part of a pointer.
-    fn of(alloc: Global, pointer: &Pointer<'_>) -> Result<Self, AllocError>
-        ensures { IfOk result (λ part. is_part part (shown pointer.now)) };
+    fn of(alloc: Global, pointer: &ReadPointer<'_>) -> Result<Self, AllocError>
+        ensures { IfOk result (λ part. is_part part (shown pointer.now.parts)) };
 }
 
-/// A pointer but for its identifier.
+/// A pointer but for its identifier: its bytes, by which it is told from others at once, and its parts.
 pub(crate) struct PointerStart {
+    bytes: Text,
     pub(crate) lot: Text,
     pub(crate) subset: Text,
     pub(crate) rty: Text,
+    ghost parts: { IsStart bytes lot subset rty },
 }
 
 impl Drop for PointerStart {
     fn drop(self) {
         let PointerStart {
+            bytes: _,
             lot: _,
             subset: _,
             rty: _,
@@ -48,26 +55,22 @@ impl Drop for PointerStart {
 }
 
 impl SharedPart for PointerStart {
-    ghost is_part = { λ start p. start ≡ record { lot = p.lot; subset = p.subset; rty = p.rty } };
+    ghost is_part = { λ start p. (start.lot ≡ p.lot) × (start.subset ≡ p.subset) × (start.rty ≡ p.rty) };
 
-    fn slot(pointer: &Pointer<'_>) -> usize {
-        match pointer.rty {
-            [.., last] => usize::from(*last) % SLOTS,
-            [] => 0,
-        }
+    fn bytes<'a>(pointer: &ReadPointer<'a>) -> &'a [u8] {
+        pointer.start()
     }
 
-    fn is_of(&self, pointer: &Pointer<'_>) -> bool {
-        self.rty.as_slice() == pointer.rty
-            && self.subset.as_slice() == pointer.subset
-            && self.lot.as_slice() == pointer.lot
+    fn is_of(&self, pointer: &ReadPointer<'_>) -> bool {
+        self.bytes.as_slice() == pointer.start()
     }
 
-    fn of(alloc: Global, pointer: &Pointer<'_>) -> Result<PointerStart, AllocError> {
+    fn of(alloc: Global, pointer: &ReadPointer<'_>) -> Result<PointerStart, AllocError> {
         Ok(PointerStart {
-            lot: Text::from_slice(alloc, pointer.lot)?,
-            subset: Text::from_slice(alloc, pointer.subset)?,
-            rty: Text::from_slice(alloc, pointer.rty)?,
+            bytes: Text::from_slice(alloc, pointer.start())?,
+            lot: Text::from_slice(alloc, pointer.parts.lot)?,
+            subset: Text::from_slice(alloc, pointer.parts.subset)?,
+            rty: Text::from_slice(alloc, pointer.parts.rty)?,
         })
     }
 }
@@ -75,25 +78,18 @@ impl SharedPart for PointerStart {
 impl SharedPart for Name {
     ghost is_part = { λ name p. name ≡ record { rty = p.rty; rid = p.rid } };
 
-    // The names of classes mostly end alike, as in `_id`, so the bytes before that are taken.
-    fn slot(pointer: &Pointer<'_>) -> usize {
-        match pointer.rid {
-            [.., a, b, c, _, _, _] => {
-                (usize::from(*a) + 7 * usize::from(*b) + 31 * usize::from(*c)) % SLOTS
-            }
-            [.., last] => usize::from(*last) % SLOTS,
-            [] => 0,
-        }
+    fn bytes<'a>(pointer: &ReadPointer<'a>) -> &'a [u8] {
+        pointer.text
     }
 
-    fn is_of(&self, pointer: &Pointer<'_>) -> bool {
-        self.rid.as_slice() == pointer.rid && self.rty.as_slice() == pointer.rty
+    fn is_of(&self, pointer: &ReadPointer<'_>) -> bool {
+        self.rid.as_slice() == pointer.parts.rid && self.rty.as_slice() == pointer.parts.rty
     }
 
-    fn of(alloc: Global, pointer: &Pointer<'_>) -> Result<Name, AllocError> {
+    fn of(alloc: Global, pointer: &ReadPointer<'_>) -> Result<Name, AllocError> {
         Ok(Name {
-            rty: Text::from_slice(alloc, pointer.rty)?,
-            rid: Text::from_slice(alloc, pointer.rid)?,
+            rty: Text::from_slice(alloc, pointer.parts.rty)?,
+            rid: Text::from_slice(alloc, pointer.parts.rid)?,
         })
     }
 }
@@ -105,6 +101,29 @@ impl SharedPart for Name {
 pub(crate) struct SharedParts<P> {
     /// None before the first pointer has come.
     slots: Vec<Arc<P>>,
+}
+
+/// The bytes of a short text as one number.
+fn number_of(bytes: &[u8]) -> u64 {
+    let mut number: u64 = 0;
+    for byte in bytes {
+        number = number.wrapping_mul(256).wrapping_add(u64::from(*byte));
+    }
+    number
+}
+
+/// The slot of a part, by its first and its last bytes.
+fn slot_of(bytes: &[u8]) -> usize
+    ensures { result < 64 }
+{
+    let number = if bytes.len() < LAST {
+        number_of(bytes)
+    } else {
+        first_word(bytes)
+            .wrapping_mul(SPREAD)
+            .wrapping_add(last_word(bytes))
+    };
+    (number.wrapping_mul(SPREAD) >> SHIFT) as usize
 }
 
 impl<P: SharedPart + Drop> SharedParts<P> {
@@ -119,11 +138,11 @@ impl<P: SharedPart + Drop> SharedParts<P> {
     pub(crate) fn part(
         &mut self,
         alloc: Global,
-        pointer: &Pointer<'_>,
+        pointer: &ReadPointer<'_>,
     ) -> Result<Arc<P>, AllocError>
-        ensures { IfOk result (λ part. P.is_part part.value (shown pointer.now)) }
+        ensures { IfOk result (λ part. P.is_part part.value (shown pointer.now.parts)) }
     {
-        if let Some(known) = self.slots.get(P::slot(pointer))
+        if let Some(known) = self.slots.get(slot_of(P::bytes(pointer)))
             && known.is_of(pointer)
         {
             return known.clone();
@@ -133,14 +152,14 @@ impl<P: SharedPart + Drop> SharedParts<P> {
 
     /// The part of a pointer, which is kept.
     #[inline(never)]
-    fn new_part(&mut self, alloc: Global, pointer: &Pointer<'_>) -> Result<Arc<P>, AllocError>
-        ensures { IfOk result (λ part. P.is_part part.value (shown pointer.now)) }
+    fn new_part(&mut self, alloc: Global, pointer: &ReadPointer<'_>) -> Result<Arc<P>, AllocError>
+        ensures { IfOk result (λ part. P.is_part part.value (shown pointer.now.parts)) }
     {
         let part = Arc::new(alloc, P::of(alloc, pointer)?)?;
         for _ in self.slots.len()..SLOTS {
             self.slots.push(part.clone()?)?;
         }
-        if let Some(slot) = self.slots.get_mut(P::slot(pointer)) {
+        if let Some(slot) = self.slots.get_mut(slot_of(P::bytes(pointer))) {
             *slot = part.clone()?;
         }
         Ok(part)

@@ -6,11 +6,11 @@ ghost use Rattle.edi_record.specs.inner.RecordParts.{whole};
 
 use crate::blocks::Blocks;
 use crate::end::End;
+use crate::identifier::Identifier;
 use crate::record::{Attribute, Kind};
 use crate::record_parts::{RecordHead, RecordParts};
 use crate::record_ref::RecordRef;
 use crate::sheet_rest::SheetRest;
-use edi_line::Text;
 use std::alloc::{AllocError, Global};
 use std::marker::Model;
 
@@ -96,7 +96,7 @@ impl SheetRecords {
     }
 
     /// The identifier of a record, by its place from 0.
-    pub fn rid(&self, place: usize) -> &Text
+    pub fn rid(&self, place: usize) -> &Identifier
         requires { place < length self.now }
         ensures { result.now ≡ (stated_at self.now place).rid }
     {

@@ -69,5 +69,5 @@ pub(crate) fn record_of(
         draft.take(alloc, parts, zone)?;
         own += 1;
     }
-    Ok((draft.finish(alloc, parts)?, own))
+    Ok((draft.finish(parts)?, own))
 }

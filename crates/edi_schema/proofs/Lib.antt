@@ -15,7 +15,6 @@ pub mod Stopping
 pub mod Led
 pub mod StepsHold
 pub mod Made
-pub mod FewGroups
 pub mod Loaded
 pub mod One
 pub mod SortedLists

@@ -20,7 +20,7 @@ use Rattle.edi_schema.specs.SchemaRefusal.{IsGoodSchema, IsSchemaRefusal}
 use Rattle.edi_schema.specs.inner.Steps.{IfEntry, IfKinds, AreStated, AreMatched, AreUnmatched, StopsAt}
 use Rattle.edi_schema.specs.declared.fault.SchemaFault.{SchemaFault}
 use Rattle.edi_schema.specs.declared.fault.SchemaFault.TheVariants.{Memory, Line, Entry, Kinds}
-use Rattle.edi_schema.proofs.FewGroups.{few_groups}
+use Rattle.edi_record.proofs.FewGroups.{few_groups}
 use Rattle.edi_schema.proofs.Led.{groups_led}
 use Rattle.edi_schema.proofs.Letters.{all_letters}
 use Rattle.edi_schema.proofs.ReadNames.{group_lines, all_readable}

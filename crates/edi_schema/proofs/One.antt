@@ -21,7 +21,7 @@ use Rattle.edi_schema.specs.SchemaOf.HasType.{none, some}
 use Rattle.edi_schema.specs.SchemaRefusal.{IsGoodSchema}
 use Rattle.edi_schema.specs.Sorted.{AlwaysRises}
 use Rattle.edi_schema.specs.declared.class.Class.{Class}
-use Rattle.edi_schema.proofs.FewGroups.{zones_are}
+use Rattle.edi_record.proofs.FewGroups.{zones_are}
 use Rattle.edi_schema.proofs.Led.{named_so}
 use Rattle.edi_schema.proofs.Ordered.{all_at, name_total}
 

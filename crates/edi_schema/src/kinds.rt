@@ -80,7 +80,7 @@ impl<'a> Kinds<'a> {
     }
 
     /// The kind with a code.
-    fn coded(&self, code: &[u8]) -> Option<Role>
+    fn role_of_code(&self, code: &[u8]) -> Option<Role>
         ensures { result ≡ role_coded self.now code.now }
     {
         if code == self.codes.initial {
@@ -101,11 +101,11 @@ impl<'a> Kinds<'a> {
         ensures { result ≡ role_by self.now (option_map (λ t. t.now) code.entry) identifier.now }
     {
         if let Some(code) = code {
-            if let Some(role) = self.coded(code) {
+            if let Some(role) = self.role_of_code(code) {
                 return role;
             }
         }
-        match self.coded(identifier) {
+        match self.role_of_code(identifier) {
             Some(role) => role,
             None => Role::Plain,
         }

@@ -16,7 +16,7 @@ use crate::kinds::Kinds;
 use crate::places::{are_pointable, kind_places};
 use crate::role::Role;
 use crate::sorting::{by_name, sorted_by_name};
-use crate::titles::{identified, titles};
+use crate::titles::{check_identifiers, titles};
 use edi_hash::NameHash;
 use edi_line::{LineFault, Zone, zones};
 use edi_record::Name;
@@ -66,7 +66,7 @@ fn zones_in<'a>(alloc: Global, file: Source, bytes: &'a [u8]) -> Result<Vec<Zone
 }
 
 /// The classes that the records of the two files state, in the order of their names.
-fn stated<'a>(
+fn stated_classes<'a>(
     alloc: Global,
     kinds: &Kinds<'_>,
     classes: &[Definition<'a>],
@@ -76,8 +76,8 @@ fn stated<'a>(
         AreStated (map definition_said classes.now) (map definition_said words.now) kinds.now (map drafted drafts.items)) }
     ensures stopped { IfErr result (IfEntry (StopsAt (map definition_said classes.now) (map definition_said words.now) kinds.now)) }
 {
-    identified(Source::Scd, classes)?;
-    identified(Source::Dic, words)?;
+    check_identifiers(Source::Scd, classes)?;
+    check_identifiers(Source::Dic, words)?;
     titles(alloc, Source::Scd, classes)?;
     let names = titles(alloc, Source::Dic, words)?;
     let words = Dictionary {
@@ -118,7 +118,7 @@ impl Schema {
         let word_zones = zones_in(alloc, Source::Dic, dic)?;
         let classes = definitions(alloc, &class_zones)?;
         let words = definitions(alloc, &word_zones)?;
-        let drafts = stated(alloc, kinds, &classes, &words)?;
+        let drafts = stated_classes(alloc, kinds, &classes, &words)?;
         Schema::of_classes(alloc, &drafts)
     }
 

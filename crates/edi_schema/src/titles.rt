@@ -21,7 +21,7 @@ fn first_unidentified(records: &[Definition<'_>]) -> Option<usize>
 }
 
 /// Each record of a file has exactly one identifier in form: 1 to 255 bytes without a semicolon.
-pub(crate) fn identified(file: Source, records: &[Definition<'_>]) -> Result<(), SchemaFault>
+pub(crate) fn check_identifiers(file: Source, records: &[Definition<'_>]) -> Result<(), SchemaFault>
     ensures ok { OnOk result (position (λ d. d.lacks_identifier) records.now ≡ None) }
     ensures lacks { IfErr result (IfEntry (λ source rule at. (source ≡ file) × (rule ≡ 601)
         × ((place : ℕ) × (at ≡ place + 1) × (position (λ d. d.lacks_identifier) records.now ≡ Some place)))) }

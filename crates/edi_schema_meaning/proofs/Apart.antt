@@ -9,7 +9,7 @@ use Rattle.edi_record.specs.LinkEnds.{EndData}
 use Rattle.edi_record.specs.declared.record.Kind.{Kind}
 use Rattle.edi_record.specs.declared.record.Kind.TheVariants.{Pno, Par, Pfe, Lnk}
 use Rattle.edi_record.specs.declared.record.Record.{Record}
-use Rattle.edi_record.specs.declared.sheet.Sheet.{Sheet}
+use Rattle.edi_record.specs.Records.{SheetData}
 use Rattle.edi_schema.specs.Classes.{Classes, place_of, role_named}
 use Rattle.edi_schema.specs.Roles.{is_plain}
 use Rattle.edi_schema.specs.declared.role.Role.{Role}
@@ -96,8 +96,8 @@ module _ (n : Name) (plain : IsPlainName n) where
 
   -- ---- a class that one schema alone has
 
-  node_sheet : Sheet
-  node_sheet = record { cse = None; list = node_records n; few = lit≤ tt; in_shape = refl }
+  node_sheet : SheetData
+  node_sheet = record { cse = None; list = node_records n }
 
   node_stated : IsSheetOf (probe (node_records n)) node_sheet
   unfolding node_sheet
@@ -142,8 +142,8 @@ module _ (n : Name) (plain : IsPlainName n) where
 
   -- ---- a class of a kind, and of none
 
-  loop_sheet : Sheet
-  loop_sheet = record { cse = None; list = loop_records n; few = lit≤ tt; in_shape = refl }
+  loop_sheet : SheetData
+  loop_sheet = record { cse = None; list = loop_records n }
 
   loop_stated : IsSheetOf (probe (loop_records n)) loop_sheet
   unfolding loop_sheet
@@ -184,8 +184,8 @@ module _ (n : Name) (plain : IsPlainName n) where
 
   -- ---- a kind of nodes, and one of faces
 
-  join_sheet : Sheet
-  join_sheet = record { cse = None; list = join_records n; few = lit≤ tt; in_shape = refl }
+  join_sheet : SheetData
+  join_sheet = record { cse = None; list = join_records n }
 
   join_stated : IsSheetOf (probe (join_records n)) join_sheet
   unfolding join_sheet
@@ -230,8 +230,8 @@ module _ (n : Name) (plain : IsPlainName n) where
 
   -- ---- initial nodes, and final ones
 
-  start_sheet : Sheet
-  start_sheet = record { cse = None; list = start_records n; few = lit≤ tt; in_shape = refl }
+  start_sheet : SheetData
+  start_sheet = record { cse = None; list = start_records n }
 
   start_stated : IsSheetOf (probe (start_records n)) start_sheet
   unfolding start_sheet

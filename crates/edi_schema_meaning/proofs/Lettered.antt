@@ -23,7 +23,7 @@ use Rattle.edi_record.specs.inner.Records.{value_of}
 use Rattle.edi_record.specs.declared.name.Name.{Name}
 use Rattle.edi_record.specs.declared.record.Kind.TheVariants.{Pno}
 use Rattle.edi_record.specs.declared.record.Value.TheVariants.{Bytes}
-use Rattle.edi_record.specs.declared.sheet.Sheet.{Sheet}
+use Rattle.edi_record.specs.Records.{SheetData}
 use Rattle.edi_schema.specs.Classes.{Classes, IsSchema, place_of, role_named}
 use Rattle.edi_schema.specs.declared.role.Role.{Role}
 use Rattle.edi_plan.specs.Plans.{PlanData, IsPlace, record_at}
@@ -39,7 +39,8 @@ use Rattle.edi_compare.proofs.KnownSheetsTests.{none_is}
 use Rattle.edi_compare.specs.Canonical.{IsCanonical}
 use Rattle.edi_schema_meaning.proofs.Apart.{lone}
 use Rattle.edi_schema_meaning.proofs.OwnForm.{IsWrittenSo, canonical_so, laid_out_back, name_at_place, own_form}
-use Rattle.edi_schema_meaning.proofs.PrintedBytes.{AreBytes, NameBytes, are_bytes, class_bytes, headed, known_bytes, printed_bytes}
+use Rattle.edi_compare.proofs.PrintedBytes.{NameBytes, class_bytes, headed, known_bytes, printed_bytes}
+use Rattle.edi_compare.proofs.ReadBytes.{AreBytes, is_bytes}
 use Rattle.edi_schema_meaning.proofs.Probing.{CanBeRead, IsPlainName, file_records, file_sheet, valued_node, zones_printable}
 use Rattle.edi_schema_meaning.proofs.Told.{place_some}
 use Rattle.edi_schema_meaning.specs.Answers.{AnswerAlike}
@@ -101,8 +102,8 @@ module _ (L : Letters) (printable : HasPrintableLetters L) (n : Name) (plain : I
   can_letter : AllByRecursion (CanBeRead L) (letter_records n)
   can_letter = (valued_node L n plain (codes "N1") [] refl (none_is 10 (codes "N1") refl) (none_is 10 [] refl) (empty_value (L.is_number n)), tt)
 
-  letter_sheet : Sheet
-  letter_sheet = record { cse = None; list = letter_records n; few = lit≤ tt; in_shape = refl }
+  letter_sheet : SheetData
+  letter_sheet = record { cse = None; list = letter_records n }
 
   -- what a schema with the class makes of the file
   written_so : (s : Classes) (k : ℕ) (role : Role) → n.rty ≡ codes "ATT" → place_of s n ≡ Some k → role_named s n ≡ Some role → IsWrittenSo s (records_layout L None (letter_records n)) (letter_records n) (letter_plan k role)
@@ -140,7 +141,7 @@ letter_bytes L n name letter =
     let text = class_text n in
     let class = class_bytes n name in
     let value : AreBytes (value_text (value_of (L.is_number n) [])) = subst AreBytes (sym (empty_value (L.is_number n))) tt in
-    are_bytes (records_layout L None (letter_records n)) (printed_bytes (zones_of_sheet L None (letter_records n)) (
+    is_bytes (records_layout L None (letter_records n)) (printed_bytes (zones_of_sheet L None (letter_records n)) (
       headed (codes "BOMT ") (codes "CANON.VEC") refl (lit< tt) (lit< tt) (known_bytes (codes "CANON.VEC") refl),
       (
         headed (codes "RTYSA") (codes "PNO") refl (lit< tt) (lit< tt) (known_bytes (codes "PNO") refl),

@@ -14,9 +14,8 @@ pub mod Told
 pub mod Apart
 pub mod Numbers
 pub mod Agreeing
-pub mod PrintedBytes
 pub mod OwnForm
 pub mod Lettered
 pub mod Sided
-pub mod ReadBytes
+pub mod GoodSchemas
 pub mod OneText

@@ -8,12 +8,11 @@ use Rattle.std.proofs.lemmas.Option.{same_Some}
 use Rattle.std.proofs.lemmas.Slice.Eq.{bytes_eq-Decides}
 use Rattle.edi_line.proofs.NumberRead.{number_is}
 use Rattle.edi_line.specs.inner.Number.{fraction_number, number, whole_number}
-use Rattle.edi_record.specs.Records.{IsValueOf}
+use Rattle.edi_record.specs.Records.{IsValueOf, SheetData}
 use Rattle.edi_record.specs.declared.name.Name.{Name}
 use Rattle.edi_record.specs.declared.record.Kind.TheVariants.{Pno}
 use Rattle.edi_record.specs.declared.record.Value.{Value}
 use Rattle.edi_record.specs.declared.record.Value.TheVariants.{Bytes, Number}
-use Rattle.edi_record.specs.declared.sheet.Sheet.{Sheet}
 use Rattle.edi_schema.specs.Classes.{Classes, is_number_named, place_of, role_named}
 use Rattle.edi_schema.specs.declared.role.Role.{Role}
 use Rattle.edi_plan.specs.Plans.{PlanData}
@@ -54,8 +53,8 @@ module _ (n : Name) (plain : IsPlainName n) (att : n.rty ≡ codes "ATT") where
     (valued_node plain_letters n plain (codes "M") (codes "1") refl (none_is 10 (codes "M") refl) (none_is 10 (codes "1") refl) refl, tt),
   )
 
-  value_sheet : Sheet
-  value_sheet = record { cse = None; list = value_records n; few = lit≤ tt; in_shape = refl }
+  value_sheet : SheetData
+  value_sheet = record { cse = None; list = value_records n }
 
   value_stated : IsSheetOf (probe (value_records n)) value_sheet
   unfolding value_sheet

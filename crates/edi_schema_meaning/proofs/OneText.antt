@@ -18,16 +18,17 @@ use Rattle.edi_schema.specs.declared.class.Class.{Class}
 use Rattle.edi_schema.specs.declared.role.Role.{Role}
 use Rattle.edi_schema.specs.declared.role.Role.TheVariants.{Initial, Final, Left, Right, Plain}
 use Rattle.edi_plan.proofs.Built.{role_at_place}
+use Rattle.edi_compare.proofs.PrintedBytes.{NameBytes}
+use Rattle.edi_compare.proofs.SchemaBytes.{names_read}
 use Rattle.edi_schema_text.proofs.Named.{no_semicolon}
 use Rattle.edi_schema_text.proofs.Stated.{in_named}
 use Rattle.edi_schema_text.proofs.Tell.{meaning_one, text_made}
 use Rattle.edi_schema_text.specs.SchemaText.{AgreeOn, MeanSame}
 use Rattle.edi_schema_meaning.proofs.Alike.{one_answer}
-use Rattle.edi_schema_meaning.proofs.ReadBytes.{good_names, good_schema}
+use Rattle.edi_schema_meaning.proofs.GoodSchemas.{good_schema}
 use Rattle.edi_schema_meaning.proofs.Agreeing.{kinds, numbers, one_side}
 use Rattle.edi_schema_meaning.proofs.Lettered.{same_letter}
 use Rattle.edi_schema_meaning.proofs.OwnForm.{name_there}
-use Rattle.edi_schema_meaning.proofs.PrintedBytes.{NameBytes}
 use Rattle.edi_schema_meaning.proofs.Probing.{IsPlainName}
 use Rattle.edi_schema_meaning.proofs.Sided.{sides_told}
 use Rattle.edi_schema_meaning.proofs.Told.{all_named, place_some, plain_name}
@@ -236,4 +237,4 @@ pub texts_decide : TextsDecideAnswers
 texts_decide scd dic scd' dic' kinds kinds' s t bytes first second =
     let hs = good_schema scd dic kinds s first in
     let ht = good_schema scd' dic' kinds' t second in
-    (one_answer s t hs ht, one_text s t hs ht (good_names scd dic kinds s bytes first))
+    (one_answer s t hs ht, one_text s t hs ht (names_read kinds scd dic s bytes first))

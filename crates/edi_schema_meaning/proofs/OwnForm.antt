@@ -7,7 +7,7 @@ use Rattle.edi_line.specs.Refusal.{IsUnbroken}
 use Rattle.edi_record.specs.RecordLayout.{records_layout}
 use Rattle.edi_record.specs.declared.name.Name.{Name}
 use Rattle.edi_record.specs.declared.record.Record.{Record}
-use Rattle.edi_record.specs.declared.sheet.Sheet.{Sheet}
+use Rattle.edi_record.specs.Records.{SheetData}
 use Rattle.edi_schema.proofs.Names.{same_name}
 use Rattle.edi_schema.specs.Classes.{Classes, IsSchema, class_name_at, is_name, place_of}
 use Rattle.edi_plan.proofs.Built.{plans_agreeing, plans_whole}
@@ -22,7 +22,7 @@ use Rattle.edi_write.proofs.WrittenRecords.{written_layout}
 use Rattle.edi_write.specs.Layout.{class_name_of, layout, no_name}
 use Rattle.edi_write.specs.Written.{letters, written_records}
 use Rattle.edi_compare.proofs.Headline.{decide}
-use Rattle.edi_compare.proofs.Phases.{all_held, one_plan, references_held, topology_held}
+use Rattle.edi_compare.proofs.Phases.{all_held, one_plan, references_held, sheet_whole, topology_held}
 use Rattle.edi_compare.proofs.Reading.{reading_is_one}
 use Rattle.edi_compare.specs.Canonical.{IsCanonical}
 use Rattle.edi_compare.specs.Headline.{IsFormOf}
@@ -56,7 +56,7 @@ own_form s keeps c h =
 
 -- a file of records that a schema accepts, and whose plan is written as these records
 pub record IsWrittenSo (s : Classes) (c : List ℕ) (rs : List Record) (p : PlanData) : Type 0 where
-  pub sheet : Sheet
+  pub sheet : SheetData
   pub states : IsSheetOf c sheet
   pub list : sheet.list ≡ rs
   pub records : RecordsHold s c
@@ -82,7 +82,7 @@ module _ (s : Classes) (keeps : IsSchema s) (c : List ℕ) (rs : List Record) (p
 
   pub laid_out_so : layout s p ≡ records_layout (letters s) None rs
   laid_out_so =
-      written_layout s p keeps (plans_whole s h.sheet p h.plan unbroken) (plans_agreeing s h.sheet p h.plan)
+      written_layout s p keeps (plans_whole s h.sheet p h.plan (sheet_whole s c h.records h.sheet h.states) unbroken) (plans_agreeing s h.sheet p h.plan)
       ∙ (λ i. records_layout (letters s) (h.no_set i) (h.written i))
 
   -- where it is their layout, in order and of bytes, it is canonical

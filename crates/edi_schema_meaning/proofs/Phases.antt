@@ -1,7 +1,7 @@
 -- What a file breaks, phase by phase, under two schemas that are linked.
 use Rattle.std.proofs.Common.{ℕ, List}
 use Rattle.edi_line.specs.Refusal.{IsLeastBroken}
-use Rattle.edi_record.specs.declared.sheet.Sheet.{Sheet}
+use Rattle.edi_record.specs.Records.{SheetData}
 use Rattle.edi_schema.specs.Classes.{Classes}
 use Rattle.edi_plan.specs.PlanOf.{IsPlanOf}
 use Rattle.edi_plan.specs.Plans.{PlanData}
@@ -18,7 +18,7 @@ use Rattle.edi_schema_meaning.proofs.Renamed.{renamed}
 -- the names mean the same, and a plan under s is one under u with its classes renamed
 pub record IsLinked (s u : Classes) (f : ℕ → ℕ) : Type 0 where
   pub names : SameNames s u
-  pub plans : (sheet : Sheet) (p : PlanData) → Nameable sheet.list → Attributed sheet.list → IsPlanOf s sheet p → IsPlanOf u sheet (renamed f p)
+  pub plans : (sheet : SheetData) (p : PlanData) → Nameable sheet.list → Attributed sheet.list → IsPlanOf s sheet p → IsPlanOf u sheet (renamed f p)
 
 -- what holds of an accepted file
 pub references_held : (s : Classes) (b : List ℕ) → IsAccepted s b → ReferencesHold s b

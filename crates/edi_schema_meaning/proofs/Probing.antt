@@ -13,7 +13,7 @@ use Rattle.edi_record.specs.RecordLayout.{FollowsRules, HasPrintableLetters, IsL
 use Rattle.edi_record.specs.CanonicalZones.{value_text}
 use Rattle.edi_record.specs.RecordRules.{is_identifier}
 use Rattle.edi_record.specs.inner.Records.{value_of}
-use Rattle.edi_record.specs.Records.{StatesSheet, has_points, is_link}
+use Rattle.edi_record.specs.Records.{StatesSheet, has_points, is_link, SheetData}
 use Rattle.edi_record.specs.Shapes.{kind_code}
 use Rattle.edi_record.specs.Sound.{IsSoundFile}
 use Rattle.edi_record.specs.Texts.{is_semicolon}
@@ -21,8 +21,7 @@ use Rattle.edi_record.specs.declared.name.Name.{Name}
 use Rattle.edi_record.specs.declared.record.Kind.{Kind}
 use Rattle.edi_record.specs.declared.record.Kind.TheVariants.{Pno, Par, Pfe, Fea, Lnk}
 use Rattle.edi_record.specs.declared.record.Record.{Record}
-use Rattle.edi_record.specs.declared.sheet.Sheet.{Sheet}
-use Rattle.edi_schema.proofs.FewGroups.{zones_are}
+use Rattle.edi_record.proofs.FewGroups.{zones_are}
 use Rattle.edi_schema.proofs.ReadNames.{whole_text}
 use Rattle.edi_schema.specs.Classes.{Classes}
 use Rattle.edi_compare.proofs.KnownSheetsTests.{none_is}
@@ -141,7 +140,7 @@ module _ (L : Letters) (printable : HasPrintableLetters L) where
     sound = sheet_sound L None rs printable tt (parts IsRecord (λ r c. c.is_record) rs all) (parts IsLineRecord (λ r c. c.is_line) rs all) (parts FollowsRules (λ r c. c.follows) rs all) few
 
     -- the file states these records
-    pub file_sheet : (sheet : Sheet) → sheet.cse ≡ None → sheet.list ≡ rs → IsSheetOf (records_layout L None rs) sheet
+    pub file_sheet : (sheet : SheetData) → sheet.cse ≡ None → sheet.list ≡ rs → IsSheetOf (records_layout L None rs) sheet
     file_sheet sheet cse list =
         let again = sheet_again L None rs zones_printable (parts IsRecord (λ r c. c.is_record) rs all) in
         let are : zones_of (records_layout L None rs) ≡ sound.zones = sym (zones_are (records_layout L None rs) sound.zones sound.are_zones) in (
@@ -164,7 +163,7 @@ plain_printable : HasPrintableLetters plain_letters
 plain_printable n = refl
 
 module _ (rs : List Record) (all : AllByRecursion (CanBeRead plain_letters) rs) (few : length rs ≤ 9999999) where
-  pub probe_sheet : (sheet : Sheet) → sheet.cse ≡ None → sheet.list ≡ rs → IsSheetOf (probe rs) sheet
+  pub probe_sheet : (sheet : SheetData) → sheet.cse ≡ None → sheet.list ≡ rs → IsSheetOf (probe rs) sheet
   probe_sheet sheet cse list = file_sheet plain_letters plain_printable rs all few sheet cse list
 
   pub probe_records : (s : Classes) → RecordsHold s (probe rs)

@@ -6,12 +6,11 @@ use Rattle.std.proofs.lemmas.Slice.Eq.{bytes_eq-Decides}
 use Rattle.edi_line.specs.ZoneData.{ZoneData}
 use Rattle.edi_line.specs.Refusal.{IsUnbroken}
 use Rattle.edi_line.specs.Zones.{groups_of}
-use Rattle.edi_record.specs.Records.{States}
+use Rattle.edi_record.specs.Records.{States, SheetData}
 use Rattle.edi_record.specs.Texts.{is_semicolon}
 use Rattle.edi_record.specs.declared.name.Name.{Name}
 use Rattle.edi_record.specs.declared.record.Attribute.{Attribute}
 use Rattle.edi_record.specs.declared.record.Record.{Record}
-use Rattle.edi_record.specs.declared.sheet.Sheet.{Sheet}
 use Rattle.edi_schema.proofs.Ordered.{all_at}
 use Rattle.edi_schema.specs.Classes.{Classes, place_of, role_named}
 use Rattle.edi_schema.specs.declared.role.Role.{Role}
@@ -38,7 +37,7 @@ each_nameable [] (r ∷ rs) all = absurd all
 each_nameable (g ∷ gs) [] all = absurd all
 each_nameable (g ∷ gs) (r ∷ rs) all = (no_semicolon r.scp.rty all.0.scp.2.2.rty_part, each_nameable gs rs all.1)
 
-pub nameable : (b : List ℕ) (sheet : Sheet) → IsSheetOf b sheet → Nameable sheet.list
+pub nameable : (b : List ℕ) (sheet : SheetData) → IsSheetOf b sheet → Nameable sheet.list
 nameable b sheet h = each_nameable (groups_of h.0) sheet.list h.2.records
 
 pub attributed : (s : Classes) (list : List Record) → IsUnbroken (BreaksReferenceRule s list) → Attributed list

@@ -17,7 +17,7 @@ use Rattle.edi_record.specs.Texts.{point_text, pointer_text}
 use Rattle.edi_record.specs.declared.name.Name.{Name}
 use Rattle.edi_record.specs.declared.record.Kind.{Kind}
 use Rattle.edi_record.specs.declared.record.Kind.TheVariants.{Pno, Par, Pfe, Fea, Lnk}
-use Rattle.edi_record.specs.declared.sheet.Sheet.{Sheet}
+use Rattle.edi_record.specs.Records.{SheetData}
 use Rattle.edi_schema.proofs.Ordered.{classes_ordered}
 use Rattle.edi_schema.specs.Classes.{Classes, IsSchema, name_cmp, place_of, role_named}
 use Rattle.edi_schema.specs.Roles.{exchanged}
@@ -44,7 +44,8 @@ use Rattle.edi_compare.proofs.KnownSheetsTests.{all_below, none_is, only_one, tr
 use Rattle.edi_compare.specs.Canonical.{IsCanonical}
 use Rattle.edi_compare.specs.Headline.{IsFormOf}
 use Rattle.edi_schema_meaning.proofs.OwnForm.{IsWrittenSo, canonical_so, name_at_place, name_there, order_back, own_form}
-use Rattle.edi_schema_meaning.proofs.PrintedBytes.{AreBytes, NameBytes, ZoneBytes, are_bytes, class_bytes, headed, known_bytes, printed_bytes, zones_joined}
+use Rattle.edi_compare.proofs.PrintedBytes.{NameBytes, ZoneBytes, class_bytes, headed, known_bytes, printed_bytes, zones_joined}
+use Rattle.edi_compare.proofs.ReadBytes.{AreBytes, is_bytes}
 use Rattle.edi_schema_meaning.proofs.Probing.{CanBeRead, IsPlainName, bare_arc, bare_face, bare_link, file_records, file_sheet}
 use Rattle.edi_schema_meaning.proofs.Told.{place_some}
 use Rattle.edi_schema_meaning.specs.Probes.{arc_of, end_at, face_of, link_of, side_records, spot}
@@ -241,8 +242,8 @@ module _ (L : Letters) (printable : HasPrintableLetters L) (m n : Name) (first :
     ),
   )
 
-  side_sheet : Sheet
-  side_sheet = record { cse = None; list = side_records m n; few = lit≤ tt; in_shape = refl }
+  side_sheet : SheetData
+  side_sheet = record { cse = None; list = side_records m n }
 
   side_refers : (role : Role) (s : Classes) (j k : ℕ) → beside role ≡ Pfe → place_of s m ≡ Some j → place_of s n ≡ Some k → role_named s m ≡ Some role → role_named s n ≡ Some (exchanged role) → Refer s (side_records m n)
   unfolding is_elsewhere
@@ -368,7 +369,7 @@ side_bytes L m n first second =
     let face2 = zones_joined (zones_of_record L (face_of m (codes "F2"))) _ (face_bytes L m (codes "F2") first (known_bytes (codes "F2") refl)) link1 in
     let face1 = zones_joined (zones_of_record L (face_of m (codes "F1"))) _ (face_bytes L m (codes "F1") first (known_bytes (codes "F1") refl)) face2 in
     let arc = zones_joined (zones_of_record L (arc_of m (codes "A1"))) _ (arc_bytes L m first) face1 in
-    are_bytes (records_layout L None (side_records m n)) (printed_bytes (zones_of_sheet L None (side_records m n))
+    is_bytes (records_layout L None (side_records m n)) (printed_bytes (zones_of_sheet L None (side_records m n))
     (headed (codes "BOMT ") (codes "CANON.VEC") refl (lit< tt) (lit< tt) (known_bytes (codes "CANON.VEC") refl), zones_joined _ (zone_end ∷ []) arc last))
   where
     zone_end : ZoneData

@@ -2,12 +2,11 @@
 use Rattle.std.proofs.Common.{◌≡◌, ℕ, true, false, List, [], ◌∷◌, map, Option, Some, None, option_map, codes, refl, sym, ap, ◌∙◌, subst}
 use Rattle.std.specs.List.{AllByRecursion, AllZip, list_any}
 use Rattle.std.proofs.lemmas.Option.{none-some, same_Some}
-use Rattle.edi_record.specs.Records.{IsValueOf}
+use Rattle.edi_record.specs.Records.{IsValueOf, SheetData}
 use Rattle.edi_record.specs.Texts.{is_semicolon}
 use Rattle.edi_record.specs.declared.name.Name.{Name}
 use Rattle.edi_record.specs.declared.record.Attribute.{Attribute}
 use Rattle.edi_record.specs.declared.record.Record.{Record}
-use Rattle.edi_record.specs.declared.sheet.Sheet.{Sheet}
 use Rattle.edi_schema.specs.Classes.{Classes, is_number_named, place_of}
 use Rattle.edi_plan.specs.PlanOf.{IsPlanOf, StatesPlanAttribute, StatesPlanRecord}
 use Rattle.edi_plan.specs.Plans.{PlanData}
@@ -149,11 +148,11 @@ module _ (s : Classes) where
 
   -- ---- plans
 
-  pub plan_in : (sheet : Sheet) (p : PlanData) → Nameable sheet.list → Attributed sheet.list → IsPlanOf (meaning s) sheet p → IsPlanOf s sheet (renamed (embed s) p)
+  pub plan_in : (sheet : SheetData) (p : PlanData) → Nameable sheet.list → Attributed sheet.list → IsPlanOf (meaning s) sheet p → IsPlanOf s sheet (renamed (embed s) p)
   plan_in sheet p plain types h = record { set = h.set; each = records_in sheet.list sheet.list p.list plain types h.each }
 
-  pub plan_back : (sheet : Sheet) (p : PlanData) → Nameable sheet.list → Attributed sheet.list → IsPlanOf s sheet p → IsPlanOf (meaning s) sheet (renamed (unembed s) p)
+  pub plan_back : (sheet : SheetData) (p : PlanData) → Nameable sheet.list → Attributed sheet.list → IsPlanOf s sheet p → IsPlanOf (meaning s) sheet (renamed (unembed s) p)
   plan_back sheet p plain types h = record { set = h.set; each = records_back sheet.list sheet.list p.list plain types h.each }
 
-  pub plan_again : (sheet : Sheet) (p : PlanData) → Nameable sheet.list → Attributed sheet.list → IsPlanOf s sheet p → renamed (embed s) (renamed (unembed s) p) ≡ p
+  pub plan_again : (sheet : SheetData) (p : PlanData) → Nameable sheet.list → Attributed sheet.list → IsPlanOf s sheet p → renamed (embed s) (renamed (unembed s) p) ≡ p
   plan_again sheet p plain types h = let same = records_again sheet.list sheet.list p.list plain types h.each in λ i. record { cse = p.cse; list = same i }

@@ -11,7 +11,7 @@ use Rattle.edi_record.specs.LinkEnds.{EndData}
 use Rattle.edi_record.specs.declared.record.Kind.{Kind}
 use Rattle.edi_record.specs.declared.record.Kind.TheVariants.{Pno, Pfe, Lnk}
 use Rattle.edi_record.specs.declared.record.Record.{Record}
-use Rattle.edi_record.specs.declared.sheet.Sheet.{Sheet}
+use Rattle.edi_record.specs.Records.{SheetData}
 use Rattle.edi_schema.proofs.Names.{same_name}
 use Rattle.edi_schema.specs.Classes.{Classes, IsReadName, IsSchema, class_named, is_name, place_of, role_named}
 use Rattle.edi_schema.specs.Roles.{is_plain}
@@ -85,7 +85,7 @@ plain_name s keeps n plain role h =
 
 -- ---- which rule of references a file breaks
 
-module _ (s : Classes) (b : List ℕ) (sheet : Sheet) (states : IsSheetOf b sheet) where
+module _ (s : Classes) (b : List ℕ) (sheet : SheetData) (states : IsSheetOf b sheet) where
   -- a rule of this phase is broken by the records
   pub reference_back : RecordsHold s b → (rule at : ℕ) → rule < 400 → Breaks s b rule at → BreaksReferenceRule s sheet.list rule at
   reference_back records rule at low (of_lines h) = absurd (records.0 rule at h)
@@ -126,7 +126,7 @@ least_at_one s list rule is least = record { is = is; least = go }
     go r (suc zero) h = inr (refl, least r h)
     go r (suc (suc p)) h = inl (omega arith)
 
-pub refused_at_one : (s : Classes) (b : List ℕ) (sheet : Sheet) → IsSheetOf b sheet → RecordsHold s b → (rule : ℕ) → BreaksReferenceRule s sheet.list rule 1 → ((r : ℕ) → BreaksReferenceRule s sheet.list r 1 → rule ≤ r)
+pub refused_at_one : (s : Classes) (b : List ℕ) (sheet : SheetData) → IsSheetOf b sheet → RecordsHold s b → (rule : ℕ) → BreaksReferenceRule s sheet.list rule 1 → ((r : ℕ) → BreaksReferenceRule s sheet.list r 1 → rule ≤ r)
     → IsRefusal s b (Entry rule 1)
 refused_at_one s b sheet states records rule is least = reference_refusal s b rule 1 records sheet states (least_at_one s sheet.list rule is least)
 

@@ -1,6 +1,5 @@
 -- What the text of a schema decides: every answer, and nothing but answers.
 use Rattle.std.specs.Prelude.{◌≡◌, ◌↔◌, ℕ, List, true, false, Some, None, codes}
-use Rattle.std.specs.List.{AllByRecursion}
 use Rattle.edi_line.specs.Bytes.{IsBytes}
 use Rattle.edi_record.specs.declared.name.Name.{Name}
 use Rattle.edi_record.specs.declared.record.Kind.TheVariants.{Pno, Pfe}
@@ -13,6 +12,7 @@ use Rattle.edi_plan.specs.Joined.{beside}
 use Rattle.edi_write.specs.Written.{IsPrintableName}
 use Rattle.edi_compare.specs.Refused.{IsRefusal}
 use Rattle.edi_compare.specs.Rules.{IsAccepted}
+pub use Rattle.edi_compare.specs.Sameness.{HasByteNames}
 use Rattle.edi_compare.specs.declared.fault.Fault.TheVariants.{Entry}
 use Rattle.edi_schema_text.specs.SchemaText.{text_of_schema}
 use Rattle.edi_schema_meaning.specs.Answers.{AnswerAlike}
@@ -48,10 +48,6 @@ pub record AnswersProbes (s : Classes) (name : Name) : Type 0 where
 
 abbrev pub ProbesAreAnswered : Type 0
 ProbesAreAnswered = (s : Classes) (name : Name) → IsPrintableName name → AnswersProbes s name
-
--- each name is of bytes, as those of every file are
-abbrev pub HasByteNames : Classes → Type 0
-HasByteNames s = AllByRecursion (λ e. IsBytes e.0.rty × IsBytes e.0.rid) s
 
 -- two schemas that answer alike have one text
 abbrev pub OneAnswerOneText : Type 0

@@ -9,5 +9,5 @@ pub mod words;
 pub use given_kinds::GivenKinds;
 pub use words::{
     BadKinds, KindsFault, ManyFiles, ManyRequest, Misuse, PairFiles, PairRequest, Request,
-    SheetFiles, SheetRequest, asked, is_standard,
+    SheetFiles, SheetRequest, is_standard, request_asked,
 };

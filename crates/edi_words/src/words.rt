@@ -198,7 +198,7 @@ pub enum KindsFault<'a> {
 }
 
 /// What the words ask for, of which the first is the program's name.
-pub fn asked<'a, R: Eprint + AllocGlobal>(rt: &R, words: &'a [String]) -> Request<'a>
+pub fn request_asked<'a, R: Eprint + AllocGlobal>(rt: &R, words: &'a [String]) -> Request<'a>
     ensures { IsAsked (map string_bytes words.entry.now) result }
 {
     match parse(rt.alloc(), words) {

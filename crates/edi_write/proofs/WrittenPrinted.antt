@@ -30,7 +30,7 @@ use Rattle.edi_record.specs.CanonicalZones.{value_text}
 use Rattle.edi_record.specs.RecordLayout.{HasPrintableLetters, settled_record, IsRecord, IsLineRecord, FollowsRules, IsName, IsPoint, IsExtra, IsLineName, IsLineAttribute, IsLineEnd, IsLineExtra}
 use Rattle.edi_record.specs.Readable.{IsPrintableSheet}
 use Rattle.edi_record.specs.RecordRules.{is_identifier, BreaksRecordRule}
-use Rattle.edi_record.specs.Records.{has_points, is_link, StatesSheet, States}
+use Rattle.edi_record.specs.Records.{has_points, is_link, StatesSheet, States, SheetData}
 use Rattle.edi_record.specs.inner.Records.{value_of}
 use Rattle.edi_record.specs.Shapes.{kind_code, may_have_points, may_have_ends}
 use Rattle.edi_record.specs.Texts.{is_semicolon}
@@ -42,7 +42,6 @@ use Rattle.edi_record.specs.declared.record.Point.{Point}
 use Rattle.edi_record.specs.declared.record.Attribute.{Attribute}
 use Rattle.edi_record.specs.declared.record.Record.{Record}
 use Rattle.edi_record.specs.declared.record.Value.TheVariants.{Number, Bytes}
-use Rattle.edi_record.specs.declared.sheet.Sheet.{Sheet}
 use Rattle.edi_schema.specs.Classes.{IsLetter, Classes, IsSchema, is_name, partner_of, place_of, role_of}
 use Rattle.edi_schema.specs.Roles.{is_plain}
 use Rattle.edi_schema.proofs.Names.{same_name}
@@ -352,7 +351,7 @@ each_of : {X : Type 0} (P Q : X → Type 0) → ((x : X) → P x → Q x) → (x
 each_of P Q f [] all = tt
 each_of P Q f (x ∷ xs) all = (f x all.0, each_of P Q f xs all.1)
 
-pub written_printable : (s : Classes) (sheet : Sheet) (p q : PlanData) → HasPrintableKinds s → IsPrintableSheet sheet → IsPlanOf s sheet p → Same s p q → IsWholePlan q
+pub written_printable : (s : Classes) (sheet : SheetData) (p q : PlanData) → HasPrintableKinds s → IsPrintableSheet sheet → IsPlanOf s sheet p → Same s p q → IsWholePlan q
     → CanBePrinted q.cse (written_records s q)
 written_printable s sheet p q kinds printable plan same whole = record {
   set = subst (λ c. IfSome c IsOneLine) (sym (c.cse ∙ plan.set)) printable.cse;
@@ -390,7 +389,7 @@ types_stated s [] (a ∷ xs) types all = absurd all
 types_stated s (b ∷ bs) [] types all = absurd all
 types_stated s (b ∷ bs) (a ∷ xs) types all = (ap (λ (n : Name). n.rty) (name_is s b.atp a.atp all.0.class) ∙ types.0, types_stated s bs xs types.1 all.1)
 
-module _ (s : Classes) (sheet : Sheet) (p : PlanData) (unbroken : IsUnbroken (BreaksReferenceRule s sheet.list)) (plan : IsPlanOf s sheet p) where
+module _ (s : Classes) (sheet : SheetData) (p : PlanData) (unbroken : IsUnbroken (BreaksReferenceRule s sheet.list)) (plan : IsPlanOf s sheet p) where
   type_read : (k : ℕ) (r : Record) → slice_get sheet.list k ≡ Some r → (i : ℕ) (b : Attribute) → slice_get r.attributes i ≡ Some b → b.atp.rty ≡ codes "ATT"
   type_read k r here i b there = go (bytes_eq b.atp.rty (codes "ATT")) refl
     where
@@ -407,7 +406,7 @@ module _ (s : Classes) (sheet : Sheet) (p : PlanData) (unbroken : IsUnbroken (Br
       let d = zip_at (StatesPlanRecord s sheet.list) sheet.list p.list plan.each k blank h in
       types_stated s d.0.attributes (record_at p k).attributes (all_found (λ b. b.atp.rty ≡ codes "ATT") d.0.attributes (λ i b e. type_read k d.0 d.1 i b e)) d.2.attributes
 
-pub attribute_classes : (s : Classes) (sheet : Sheet) (p q : PlanData) → IsUnbroken (BreaksReferenceRule s sheet.list) → IsPlanOf s sheet p → Same s p q → HasAttributeClasses s q
+pub attribute_classes : (s : Classes) (sheet : SheetData) (p q : PlanData) → IsUnbroken (BreaksReferenceRule s sheet.list) → IsPlanOf s sheet p → Same s p q → HasAttributeClasses s q
 attribute_classes s sheet p q unbroken plan same = all_places (λ r. AllByRecursion (λ a. (class_name_of s a.atp).rty ≡ codes "ATT") r.attributes) q.list blank each
   where
     each : (k : ℕ) → IsPlace q k → AllByRecursion (λ a. (class_name_of s a.atp).rty ≡ codes "ATT") (record_at q k).attributes
@@ -421,7 +420,7 @@ attribute_classes s sheet p q unbroken plan same = all_places (λ r. AllByRecurs
 one_sheet : (gs : List (List ZoneData)) (rs qs : List Record) → AllZip States gs rs → AllZip States gs qs → rs ≡ qs
 one_sheet gs rs qs h g = zip_one States States states_unique gs rs qs h g
 
-read_list : (s : Classes) (q : PlanData) (sheet : Sheet) → IsSchema s → HasPrintableLetters (letters s) → IsWholePlan q → Agrees s q → CanBePrinted q.cse (written_records s q)
+read_list : (s : Classes) (q : PlanData) (sheet : SheetData) → IsSchema s → HasPrintableLetters (letters s) → IsWholePlan q → Agrees s q → CanBePrinted q.cse (written_records s q)
     → StatesSheet (zones_of (layout s q)) sheet → (sheet.cse ≡ q.cse) × (sheet.list ≡ map (settled_record (letters s)) (written_records s q))
 read_list s q sheet keeps printable whole agrees can states =
     let rs = written_records s q in

@@ -6,7 +6,7 @@ use Rattle.std.specs.Map.{keys_of}
 use Rattle.std.proofs.lemmas.Bool.{lt-ltb}
 use Rattle.std.proofs.lemmas.List.{length-map}
 use Rattle.std.proofs.lemmas.Option.{same_Some, none-some, slice_get-get_or, slice_get_within, slice_get-map}
-use Rattle.edi_record.specs.Records.{IsValueOf}
+use Rattle.edi_record.specs.Records.{IsValueOf, SheetData}
 use Rattle.edi_record.proofs.Passes.{value_said}
 use Rattle.edi_record.proofs.StatesSaid.{value_read}
 use Rattle.edi_plan.proofs.Built.{value_stated}
@@ -24,7 +24,6 @@ use Rattle.edi_record.specs.declared.record.Kind.TheVariants.{Pno, Par, Pfe, Fea
 use Rattle.edi_record.specs.declared.record.Record.{Record}
 use Rattle.edi_record.specs.declared.record.Value.{Value}
 use Rattle.edi_record.specs.declared.record.Value.TheVariants.{Number, Bytes}
-use Rattle.edi_record.specs.declared.sheet.Sheet.{Sheet}
 use Rattle.edi_record.proofs.Stated.{own_again}
 use Rattle.edi_schema.specs.Classes.{Classes, IsSchema, is_name, place_of, is_number_of}
 use Rattle.edi_schema.specs.declared.class.Class.{Class}
@@ -261,7 +260,7 @@ states_each : (s : Classes) → IsSchema s → (p : PlanData) (list : List Recor
 states_each s keeps p list named place [] agree there = tt
 states_each s keeps p list named place (r ∷ rs) agree there = (states_record s keeps p list named (number_in s p place) r agree.0 there.0, states_each s keeps p list named (place + 1) rs agree.1 there.1)
 
-pub written_plan : (s : Classes) (p : PlanData) (sheet : Sheet) → IsSchema s → IsWholePlan p → Agrees s p
+pub written_plan : (s : Classes) (p : PlanData) (sheet : SheetData) → IsSchema s → IsWholePlan p → Agrees s p
     → sheet.cse ≡ p.cse → sheet.list ≡ map (settled_record (letters s)) (written_records s p) → IsPlanOf s sheet p
 written_plan s p sheet keeps whole agrees set list = record {
   set = sym set;

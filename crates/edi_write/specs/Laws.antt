@@ -8,10 +8,9 @@ use Rattle.edi_line.specs.Zones.{IsZonesIn}
 use Rattle.edi_record.specs.RecordRules.{BreaksRecordRule}
 use Rattle.edi_record.specs.RecordLayout.{settled_record, HasPrintableLetters, IsRecord, IsLineRecord, FollowsRules}
 use Rattle.edi_record.specs.RecordLayout as records
-use Rattle.edi_record.specs.Records.{StatesSheet}
+use Rattle.edi_record.specs.Records.{StatesSheet, SheetData}
 use Rattle.edi_record.specs.Readable.{IsPrintableSheet}
 use Rattle.edi_record.specs.declared.record.Record.{Record}
-use Rattle.edi_record.specs.declared.sheet.Sheet.{Sheet}
 use Rattle.edi_schema.specs.Classes.{Classes, IsSchema, IsPaired}
 use Rattle.edi_plan.specs.Agreeing.{Agrees}
 use Rattle.edi_plan.specs.Joined.{IsJoined}
@@ -40,7 +39,7 @@ WrittenIsNamed =
 -- The plan of a sheet with the records that are written of a plan, as they are read, is that plan.
 abbrev pub WrittenIsPlanOf : Type 0
 WrittenIsPlanOf =
-    (s : Classes) (p : PlanData) (sheet : Sheet) → IsSchema s → IsWholePlan p → Agrees s p
+    (s : Classes) (p : PlanData) (sheet : SheetData) → IsSchema s → IsWholePlan p → Agrees s p
     → sheet.cse ≡ p.cse → sheet.list ≡ map (settled_record (letters s)) (written_records s p) → IsPlanOf s sheet p
 
 -- The records that are written of a plan, as they are read, break no rule of references, where its links are joins and
@@ -65,22 +64,22 @@ WrittenRecordIsPrintable =
 -- classes of the four kinds can.
 abbrev pub WrittenIsPrintable : Type 0
 WrittenIsPrintable =
-    (s : Classes) (sheet : Sheet) (p q : PlanData) → HasPrintableKinds s → IsPrintableSheet sheet → IsPlanOf s sheet p
-    → Same s p q → IsWholePlan q
+    (s : Classes) (sheet : SheetData) (p q : PlanData) → HasPrintableKinds s → IsPrintableSheet sheet
+    → IsPlanOf s sheet p → Same s p q → IsWholePlan q
     → CanBePrinted q.cse (written_records s q)
 
 -- Each attribute's class is of type ATT, where the plan is the same as the plan of a sheet that breaks no rule of
 -- references.
 abbrev pub WrittenHasAttributeClasses : Type 0
 WrittenHasAttributeClasses =
-    (s : Classes) (sheet : Sheet) (p q : PlanData) → IsUnbroken (BreaksReferenceRule s sheet.list) → IsPlanOf s sheet p
-    → Same s p q → HasAttributeClasses s q
+    (s : Classes) (sheet : SheetData) (p q : PlanData) → IsUnbroken (BreaksReferenceRule s sheet.list)
+    → IsPlanOf s sheet p → Same s p q → HasAttributeClasses s q
 
 -- Each sheet that the zones of the layout state has the plan that was laid out, where the records that are written of
 -- it can be printed.
 abbrev pub LayoutHasPlan : Type 0
 LayoutHasPlan =
-    (s : Classes) (q : PlanData) (sheet : Sheet) (readings : List Reading) (zones : List ZoneData) → IsSchema s
+    (s : Classes) (q : PlanData) (sheet : SheetData) (readings : List Reading) (zones : List ZoneData) → IsSchema s
     → HasPrintableLetters (letters s) → IsWholePlan q → Agrees s q
     → CanBePrinted q.cse (written_records s q) → AreReadings (layout s q) readings → IsZonesIn readings zones
     → StatesSheet zones sheet → IsPlanOf s sheet q
@@ -89,7 +88,7 @@ LayoutHasPlan =
 -- ATT.
 abbrev pub LayoutPreservesReferences : Type 0
 LayoutPreservesReferences =
-    (s : Classes) (q : PlanData) (sheet : Sheet) (readings : List Reading) (zones : List ZoneData) → IsSchema s
+    (s : Classes) (q : PlanData) (sheet : SheetData) (readings : List Reading) (zones : List ZoneData) → IsSchema s
     → HasPrintableLetters (letters s) → IsWholePlan q → Agrees s q
     → CanBePrinted q.cse (written_records s q) → IsJoined q → HasAttributeClasses s q
     → AreReadings (layout s q) readings → IsZonesIn readings zones → StatesSheet zones sheet

@@ -17,7 +17,7 @@ use edi_answers::explains::{explain, explain_rule, explain_rules};
 use edi_answers::form::AnswerForm;
 use edi_answers::hashes::hash;
 use edi_answers::{notes, report};
-use edi_changes::answer::changed;
+use edi_changes::answer::tell_changes_between;
 use edi_changes::checks::check_list;
 use edi_deliveries::checks::check_manifest;
 use edi_deliveries::deliveries::answer_paths;
@@ -29,7 +29,7 @@ use edi_line::{ByteOut, ToWrite};
 use edi_outcome::Outcome;
 use edi_words::{
     GivenKinds, ManyFiles, ManyRequest, PairFiles, PairRequest, Request, SheetFiles, SheetRequest,
-    asked, is_standard,
+    is_standard, request_asked,
 };
 use edi_write::put_all;
 use std::alloc::Global;
@@ -100,13 +100,13 @@ pub fn run_over<R: Eprint + AllocGlobal, F: Folder + Listing, O: ByteOut, E: Byt
         (listings F.Listing folder.old)
         (written O.ByteOut out.old out.new) (written E.ByteOut err.old err.new) (map string_bytes words.now) result }
 {
-    let request = asked(rt, words);
-    answered(rt.alloc(), folder, out, err, request)
+    let request = request_asked(rt, words);
+    answer_request(rt.alloc(), folder, out, err, request)
 }
 
 /// Does what is asked for, and gives the exit status. Behind the answer to a request over one or two sheets, the errors
 /// get a note on the kinds of links that no class has.
-pub fn answered<F: Folder + Listing, O: ByteOut, E: ByteOut + Progress>(
+pub fn answer_request<F: Folder + Listing, O: ByteOut, E: ByteOut + Progress>(
     alloc: Global,
     folder: &mut F,
     out: &mut O,
@@ -120,13 +120,13 @@ pub fn answered<F: Folder + Listing, O: ByteOut, E: ByteOut + Progress>(
         (written O.ByteOut out.old out.new) (written E.ByteOut err.old err.new) request.entry result }
 {
     let mut note = Vec::new(alloc);
-    let status = replied(alloc, folder, out, err, &mut note, request);
+    let status = reply(alloc, folder, out, err, &mut note, request);
     notes::say(err, &note);
     status
 }
 
 // Does what is asked for but for the note, which it hands on, and gives the exit status.
-fn replied<F: Folder + Listing, O: ByteOut, E: ByteOut + Progress>(
+fn reply<F: Folder + Listing, O: ByteOut, E: ByteOut + Progress>(
     alloc: Global,
     folder: &mut F,
     out: &mut O,
@@ -144,13 +144,13 @@ fn replied<F: Folder + Listing, O: ByteOut, E: ByteOut + Progress>(
     match request {
         Request::Bundle => bundle(alloc, folder, out, err),
         Request::Sheet { kinds, files, what } => {
-            replied_of_sheet(alloc, folder, &kinds, &files, what, out, err, note)
+            reply_on_sheet(alloc, folder, &kinds, &files, what, out, err, note)
         }
         Request::Pair { kinds, files, what } => {
-            replied_of_pair(alloc, folder, &kinds, &files, what, out, err, note)
+            reply_on_pair(alloc, folder, &kinds, &files, what, out, err, note)
         }
         Request::Many { kinds, files, what } => {
-            replied_of_many(alloc, folder, &kinds, &files, what, out, err)
+            reply_on_many(alloc, folder, &kinds, &files, what, out, err)
         }
         Request::Delivery { kinds, paths } => answer_paths(alloc, folder, &kinds, &paths, out, err),
         Request::Manifest { kinds, path, file } => {
@@ -161,7 +161,9 @@ fn replied<F: Folder + Listing, O: ByteOut, E: ByteOut + Progress>(
             path,
             manifest,
         } => check_manifest(alloc, folder, &kinds, manifest, path, out, err),
-        Request::Changed { before, after } => changed(alloc, folder, before, after, out, err),
+        Request::Changed { before, after } => tell_changes_between(
+            alloc, folder, before, after, out, err,
+        ),
         Request::Explain { kinds, files, json } => {
             let form = answer_form_asked(json);
             explain(alloc, folder, &kinds, &files, form, out, err)
@@ -171,13 +173,13 @@ fn replied<F: Folder + Listing, O: ByteOut, E: ByteOut + Progress>(
             explain_rule(alloc, word, form, out, err)
         }
         Request::Rules { json } => explain_rules(alloc, answer_form_asked(json), out, err),
-        Request::Misused(misuse) => report::misused(alloc, err, misuse),
+        Request::Misused(misuse) => report::say_misuse(alloc, err, misuse),
         Request::Answered(status) => status,
     }
 }
 
 // What is asked of one sheet.
-fn replied_of_sheet<F: Folder, O: ByteOut, E: ByteOut>(
+fn reply_on_sheet<F: Folder, O: ByteOut, E: ByteOut>(
     alloc: Global,
     folder: &mut F,
     kinds: &GivenKinds<'_>,
@@ -209,7 +211,7 @@ fn replied_of_sheet<F: Folder, O: ByteOut, E: ByteOut>(
 }
 
 // What is asked of many sheets.
-fn replied_of_many<F: Folder, O: ByteOut, E: ByteOut>(
+fn reply_on_many<F: Folder, O: ByteOut, E: ByteOut>(
     alloc: Global,
     folder: &F,
     kinds: &GivenKinds<'_>,
@@ -247,7 +249,7 @@ fn replied_of_many<F: Folder, O: ByteOut, E: ByteOut>(
 }
 
 // What is asked of two sheets.
-fn replied_of_pair<F: Folder, O: ByteOut, E: ByteOut>(
+fn reply_on_pair<F: Folder, O: ByteOut, E: ByteOut>(
     alloc: Global,
     folder: &mut F,
     kinds: &GivenKinds<'_>,
@@ -369,7 +371,7 @@ fn send<F: Folder, O: ByteOut, E: ByteOut>(
     let paths = [files.scd, files.dic, files.vec, "-"];
     match sheets::send(alloc, folder, product, kinds, files, out, note) {
         Ok(()) => 0,
-        Err(fault) => report::warned(alloc, folder, err, &fault, &paths),
+        Err(fault) => report::say_fault(alloc, folder, err, &fault, &paths),
     }
 }
 
@@ -502,7 +504,7 @@ fn put_difference<O: ByteOut, E: ByteOut>(difference: &Difference, out: &mut O, 
     ensures unsaid { result ≡ 4 → IsUnsaid (written O.ByteOut out.old out.new) (written E.ByteOut err.old err.new) }
 {
     if put_all(out, &difference.text).is_err() {
-        return report::unwritten(err);
+        return report::say_unwritten(err);
     }
     if difference.same { 0 } else { DIFFERENT_STATUS }
 }

@@ -14,7 +14,7 @@ ghost use Rattle.edicad.specs.Made.{IsInput, IsMadeOf, IsNoInput, IsPictureOfPai
 
 use edi_answers::classes::{Kept, read_classes};
 use edi_answers::pair_inputs::load_pair;
-use edi_answers::sheets::{is_pair_input, meets, opened};
+use edi_answers::sheets::{is_pair_input, meets, open_input};
 use edi_compare::{RunFault, canon_of};
 use edi_diff::{Difference, TextForm, diff_from};
 use edi_drawing::{DrawnDifference, FileNames, draw_difference_from, run_draw};
@@ -87,7 +87,7 @@ pub fn send<F: Folder, O: ByteOut>(
         note.old.items note.new.items) }
 {
     match make(alloc, folder, product, kinds, files, note) {
-        Ok(bytes) => sent(out, &bytes),
+        Ok(bytes) => write_all(out, &bytes),
         Err(fault) => Err(fault),
     }
 }
@@ -197,7 +197,7 @@ fn drawn_difference<F: Folder>(
 }
 
 // Writes all bytes.
-fn sent<O: ByteOut>(out: &mut O, bytes: &[u8]) -> Result<(), RunFault>
+fn write_all<O: ByteOut>(out: &mut O, bytes: &[u8]) -> Result<(), RunFault>
     ensures ok { OnOk result (Appends (O.contents out.old) (O.contents out.new) bytes.now) }
     ensures err { IfErr result (λ e. MatchFault e (λ _. ⊥) (λ _. ⊥) (λ _. ⊥) (λ _. ⊥) (λ _. ⊥)
         (λ count. IsTrue (O.has_failed out.new) × (count ≤ length bytes.now)
@@ -230,12 +230,12 @@ fn make<F: Folder>(
         HasNoteOf (inputs F.Folder F.Reader.ByteIn folder.now) kinds.now files.now.scd.now (status_of_fault e)
         note.old.items note.new.items) }
 {
-    let mut scd = opened(folder, files.scd, 1)?;
-    let mut dic = opened(folder, files.dic, 2)?;
-    let mut vec = opened(folder, files.vec, 3)?;
+    let mut scd = open_input(folder, files.scd, 1)?;
+    let mut dic = open_input(folder, files.dic, 2)?;
+    let mut vec = open_input(folder, files.vec, 3)?;
     let classes = read_classes(alloc, kinds, files.scd, &mut scd, note)?;
     let mut kept = Kept::new(&classes);
-    made_of(
+    product_of(
         alloc,
         product,
         kinds.kinds(),
@@ -247,7 +247,7 @@ fn make<F: Folder>(
 }
 
 // What is made of the sheet of three inputs, of this name.
-fn made_of<S: ByteIn, D: ByteIn, V: ByteIn>(
+fn product_of<S: ByteIn, D: ByteIn, V: ByteIn>(
     alloc: Global,
     product: Product,
     kinds: &Kinds<'_>,

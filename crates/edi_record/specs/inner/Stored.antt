@@ -191,9 +191,9 @@ sns_come opened = option_map (λ s. s.now) opened.sense
 -- the end with its SNS
 abbrev pub end_with : OpenEnd → Option (List ℕ) → EndData
 end_with opened sns = record {
-  lot = opened.pointer.lot.now;
-  subset = opened.pointer.subset.now;
-  target = record { rty = opened.pointer.rty.now; rid = opened.pointer.rid.now };
+  lot = opened.pointer.parts.lot.now;
+  subset = opened.pointer.parts.subset.now;
+  target = record { rty = opened.pointer.parts.rty.now; rid = opened.pointer.parts.rid.now };
   sns = sns;
 }
 

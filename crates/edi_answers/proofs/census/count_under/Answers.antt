@@ -12,9 +12,9 @@ returns-in_default-clause-answer g c =
     let out = g.O.ByteOut.contents c.answer_each.new.out in
     let failed = g.O.ByteOut.has_failed c.answer_each.new.out in
     sheet_cut inputs (g.F.Folder.why c.args.folder.now) c.args.schema.now c.args.form (g.O.ByteOut.contents c.args.out.now) out out failed failed
-    (g.E.ByteOut.contents c.args.err.now) (g.E.ByteOut.contents c.answer_each.new.err) (g.E.ByteOut.contents c.unwritten.new.err)
-    (g.E.ByteOut.has_failed c.answer_each.new.err) (g.E.ByteOut.has_failed c.unwritten.new.err)
-    (paths_of c.args.sheets.now) c.unwritten.result c.in_default.ensures.err refl refl c.unwritten.ensures.text c.unwritten.ensures.stays c.unwritten.ensures.status
+    (g.E.ByteOut.contents c.args.err.now) (g.E.ByteOut.contents c.answer_each.new.err) (g.E.ByteOut.contents c.say_unwritten.new.err)
+    (g.E.ByteOut.has_failed c.answer_each.new.err) (g.E.ByteOut.has_failed c.say_unwritten.new.err)
+    (paths_of c.args.sheets.now) c.say_unwritten.result c.in_default.ensures.err refl refl c.say_unwritten.ensures.text c.say_unwritten.ensures.stays c.say_unwritten.ensures.status
 
 pub returns-in_default-text_of_counts-clause-answer : goal.returns-in_default-text_of_counts-clause-answer
 returns-in_default-text_of_counts-clause-answer g c =
@@ -49,8 +49,8 @@ returns-clause-answer g c =
     let counts = subst (λ rules. IsCountedIn c.args.form rules c.in-Ok-text_of_counts.counts.items) c.deref.ensures.value c.in-Ok-text_of_counts.ensures in
     counts_cut inputs (g.F.Folder.why c.args.folder.now) c.args.schema.now c.args.form (g.O.ByteOut.contents c.args.out.now) out after
     (g.O.ByteOut.has_failed c.answer_each.new.out) (g.O.ByteOut.has_failed c.put_all.new.writer)
-    (g.E.ByteOut.contents c.args.err.now) (g.E.ByteOut.contents c.answer_each.new.err) (g.E.ByteOut.contents c.unwritten-in-Err.new.err)
-    (g.E.ByteOut.has_failed c.answer_each.new.err) (g.E.ByteOut.has_failed c.unwritten-in-Err.new.err)
-    (paths_of c.args.sheets.now) c.in-Ok.worst c.unwritten-in-Err.result count c.answer_each.new.rules.items c.in-Ok-text_of_counts.counts.items c.in-Ok.ensures.ok
+    (g.E.ByteOut.contents c.args.err.now) (g.E.ByteOut.contents c.answer_each.new.err) (g.E.ByteOut.contents c.say_unwritten-in-Err.new.err)
+    (g.E.ByteOut.has_failed c.answer_each.new.err) (g.E.ByteOut.has_failed c.say_unwritten-in-Err.new.err)
+    (paths_of c.args.sheets.now) c.in-Ok.worst c.say_unwritten-in-Err.result count c.answer_each.new.rules.items c.in-Ok-text_of_counts.counts.items c.in-Ok.ensures.ok
     counts (subst (λ l. Appends out after (take count l)) c.deref-2.ensures.value c.in-Err.ensures.err.1) c.in-Err.ensures.failed
-    c.unwritten-in-Err.ensures.text c.unwritten-in-Err.ensures.stays c.unwritten-in-Err.ensures.status
+    c.say_unwritten-in-Err.ensures.text c.say_unwritten-in-Err.ensures.stays c.say_unwritten-in-Err.ensures.status

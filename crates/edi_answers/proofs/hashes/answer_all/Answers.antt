@@ -40,14 +40,14 @@ returns-in-Err-clause-answer g c =
     let inputs = inputs g.F.Folder g.F.Reader.ByteIn c.args.folder.now in
     inr (cut_off inputs (g.F.Folder.why c.args.folder.now) c.args.schema.now (paths_of c.args.siblings.now) c.args.form (g.O.ByteOut.contents c.args.out.now) (g.O.ByteOut.contents c.loop-path.out) (g.O.ByteOut.contents c.answer.new.out)
     (g.O.ByteOut.has_failed c.loop-path.out) (g.O.ByteOut.has_failed c.answer.new.out)
-    (g.E.ByteOut.contents c.args.err.now) (g.E.ByteOut.contents c.loop-path.err) (g.E.ByteOut.contents c.unwritten.new.err)
-    (g.E.ByteOut.has_failed c.loop-path.err) (g.E.ByteOut.has_failed c.unwritten.new.err)
+    (g.E.ByteOut.contents c.args.err.now) (g.E.ByteOut.contents c.loop-path.err) (g.E.ByteOut.contents c.say_unwritten.new.err)
+    (g.E.ByteOut.has_failed c.loop-path.err) (g.E.ByteOut.has_failed c.say_unwritten.new.err)
     (paths_of c.args.sheets.now) (paths_of (take c.loop-path.path-index c.args.sheets.now)) (paths_of (drop (suc c.loop-path.path-index) c.args.sheets.now)) _
-    c.loop-path.worst c.unwritten.result
+    c.loop-path.worst c.say_unwritten.result
     (split_at_path c.args.sheets.now c.loop-path.path-index _ c.loop-path-test.true) c.loop-path.invariant.0 c.in-Err.ensures.err.0
-    (subst (λ before. GoesOut (g.E.ByteOut.contents before) (g.E.ByteOut.contents c.unwritten.new.err) (g.E.ByteOut.has_failed c.unwritten.new.err) (ended (codes "cannot write standard output")))
-    c.in-Err.ensures.err.1 c.unwritten.ensures.text)
-    (λ failed. c.unwritten.ensures.stays (c.in-Err.ensures.stays failed)) c.unwritten.ensures.status)
+    (subst (λ before. GoesOut (g.E.ByteOut.contents before) (g.E.ByteOut.contents c.say_unwritten.new.err) (g.E.ByteOut.has_failed c.say_unwritten.new.err) (ended (codes "cannot write standard output")))
+    c.in-Err.ensures.err.1 c.say_unwritten.ensures.text)
+    (λ failed. c.say_unwritten.ensures.stays (c.in-Err.ensures.stays failed)) c.say_unwritten.ensures.status)
 
 pub returns-clause-answer : goal.returns-clause-answer
 returns-clause-answer g c =
@@ -57,7 +57,7 @@ returns-clause-answer g c =
     inl (subst (λ paths. AreAnswered inputs (g.F.Folder.why c.args.folder.now) c.args.schema.now (paths_of c.args.siblings.now) c.args.form out err paths c.loop-path.worst) (all_paths c.args.sheets.now c.loop-path.path-index (omega arith)) c.loop-path.invariant.0)
 
 pub returns-in-Err-clause-stays : goal.returns-in-Err-clause-stays
-returns-in-Err-clause-stays g c = λ t. c.unwritten.ensures.stays (c.in-Err.ensures.stays (c.loop-path.invariant.2 t))
+returns-in-Err-clause-stays g c = λ t. c.say_unwritten.ensures.stays (c.in-Err.ensures.stays (c.loop-path.invariant.2 t))
 
 pub returns-clause-stays : goal.returns-clause-stays
 returns-clause-stays g c = c.loop-path.invariant.2

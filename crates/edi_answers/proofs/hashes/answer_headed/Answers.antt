@@ -38,6 +38,6 @@ returns-clause-answer g c =
     inr (inl (
       c.in-Err.field-0.count,
       subst (PrintsFirst out c.in-Err.field-0.count) line c.in-Err.ensures.err,
-      (c.in-Err.ensures.failed, c.unwritten.ensures.text),
-      c.unwritten.ensures.status,
+      (c.in-Err.ensures.failed, c.say_unwritten.ensures.text),
+      c.say_unwritten.ensures.status,
     ))

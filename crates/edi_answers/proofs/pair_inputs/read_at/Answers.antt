@@ -3,7 +3,7 @@ use Rattle.edi_answers.proofs.pair_inputs.read_at.Goals as goal
 
 pub returns-clause-read : goal.returns-clause-read
 returns-clause-read g c =
-    read_whole g.F.Folder g.F.Reader.ByteIn c.args.folder.now c.args.path.now c.args.reader.now c.read_input.new.reader c.requires c.read_input.result (λ bytes. bytes.items) c.read_input.ensures.all
+    read_whole g.F.Folder g.F.Reader.ByteIn c.args.folder.now c.args.path.now c.args.reader.now c.read_input.new.reader c.requires c.read_input.result g.G.Gathering.bytes c.read_input.ensures.all
     c.read_input.ensures.read
 
 pub returns-clause-err : goal.returns-clause-err

@@ -6,7 +6,7 @@ use Rattle.edi_answers.proofs.report.answer.Goals as goal
 
 pub returns-in-Fault-clause-said : goal.returns-in-Fault-clause-said
 returns-in-Fault-clause-said g c =
-    let err = written g.E.ByteOut c.args.err.now c.warned.new.err in
+    let err = written g.E.ByteOut c.args.err.now c.say_fault.new.err in
     rw c.in-Fault.is
     (said_of_warned (g.F.Folder.why c.args.folder.now) (g.O.ByteOut.contents c.args.out.now) (g.O.ByteOut.has_failed c.args.out.now) err c.args.form c.in-Fault.fault
-    (texts c.args.paths.now) c.warned.result (omega arith) c.warned.ensures.said)
+    (texts c.args.paths.now) c.say_fault.result (omega arith) c.say_fault.ensures.said)

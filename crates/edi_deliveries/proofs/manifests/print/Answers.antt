@@ -15,6 +15,6 @@ returns-clause-answer g c =
     inr (inl (
       c.in-Err.field-0.count,
       subst (λ (text : List ℕ). PrintsFirst out c.in-Err.field-0.count text) (c.deref.ensures.value ∙ c.in-Ok.ensures) c.in-Err.ensures.err,
-      (c.in-Err.ensures.failed, c.unwritten.ensures.text),
-      c.unwritten.ensures.status,
+      (c.in-Err.ensures.failed, c.say_unwritten.ensures.text),
+      c.say_unwritten.ensures.status,
     ))

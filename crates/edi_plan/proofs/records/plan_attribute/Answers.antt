@@ -10,5 +10,5 @@ returns-clause-ok c =
     let number = ap (λ o. unwrap_or o false) c.is_number.ensures ∙ sym (number_at_place s a.atp c.in-Some.class class) in
     record {
       type = c.in-Some.ensures.class.0;
-      states = record { class = class; set = c.in_ok-copied.ensures; value = value_stated s a.atp c.is_number.result a.atv c.in_ok-value_of.field-0 number c.in_ok-value_of.ensures };
+      states = record { class = class; set = c.in_ok-copy_if_any.ensures; value = value_stated s a.atp c.is_number.result a.atv c.in_ok-value_of.field-0 number c.in_ok-value_of.ensures };
     }

@@ -32,7 +32,7 @@ returns-then-is_place-clause-least c =
     let s = c.args.schema.now in
     let list = c.args.records in
     let i = c.loop-record.invariant in
-    subst (IsRecordRefusal (BreaksReferenceRule s list)) (sym c.broken.ensures.fault)
+    subst (IsRecordRefusal (BreaksReferenceRule s list)) (sym c.broken_rule.ensures.fault)
     (refused_at s list c.loop-record.place c.loop-record.sides.items i.done 301
     (repeats_301 s list c.loop-record.place (repeats_here list c.loop-record.place c.args.references.now.repeat c.requires.references.repeat (c.is_place.ensures.0 c.if-is_place.true))))
 
@@ -69,7 +69,7 @@ returns-in-Err-Broken-clause-least c =
     let breaks = subst (IsUnresolved (λ rule. first_broken (reference_tests s c.args.references.now.subset c.split_at.result.0.now c.deref_mut.result.now r) ≡ Some rule)) c.in-Err-Broken.field-0-is c.in-Err-Broken.ensures.least in
     let named = subst (λ (x : Option Subset). first_broken (reference_tests s x c.split_at.result.0.now c.deref_mut.result.now r) ≡ Some c.in-Err-Broken.rule) c.requires.references.subset breaks in
     let refused = refused_at s list place c.deref_mut.result.now before c.in-Err-Broken.rule (least_here s list place r here c.split_at.result.0.now own c.deref_mut.result.now before c.in-Err-Broken.rule named fresh) in
-    subst (IsRecordRefusal (BreaksReferenceRule s list)) (sym c.broken-in-Err-Broken.ensures.fault) (rw c.in-Err-Broken.field-0-is refused)
+    subst (IsRecordRefusal (BreaksReferenceRule s list)) (sym c.broken_rule-in-Err-Broken.ensures.fault) (rw c.in-Err-Broken.field-0-is refused)
 
 pub returns-in-Err-Broken-clause-earlier : goal.returns-in-Err-Broken-clause-earlier
 returns-in-Err-Broken-clause-earlier c =
@@ -82,15 +82,15 @@ returns-in-Err-Broken-clause-earlier c =
     let here = left_there list c.loop-record.rest place r i.rest c.in-Some.ensures in
     let is : c.split_at.result.0.now ≡ take (length r.ends) c.loop-record.targets.now = c.split_at.ensures.front ∙ ap (λ (es : List EndData). take (length es) c.loop-record.targets.now) c.ends.ensures in
     let own = subst (AllZip (IsTargetIfAny list) r.ends) (sym is) (own_targets list (drop place list) (drop (place + 1) list) r (cut_at list place r here) c.loop-record.targets.now i.left) in
-    let told = c.broken-in-Err-Broken.ensures in
-    let fault : c.broken-in-Err-Broken.result.fault ≡ Broken rule (place + 1) = told.fault ∙ rw c.in-Err-Broken.field-0-is refl in
+    let told = c.broken_rule-in-Err-Broken.ensures in
+    let fault : c.broken_rule-in-Err-Broken.result.fault ≡ Broken rule (place + 1) = told.fault ∙ rw c.in-Err-Broken.field-0-is refl in
     let least = subst (IsRecordRefusal (BreaksReferenceRule s list)) fault (returns-in-Err-Broken-clause-least c) in
     let found = λ (e : rule ≡ 307).
     link_found s list place r here c.split_at.result.0.now own (plan_records_of c.loop-record.list) i.zipped rule e least.is c.earlier_link-earlier.result
     (subst (λ (role : Role). IsLeastIfAny (IsOfSideAt (plan_records_of c.loop-record.list) role c.split_at.result.0.now) c.earlier_link-earlier.result) c.link_role.ensures
     (c.earlier_link-earlier.ensures.link (rw c.in-Err-Broken.field-0-is e))) in
     let others = λ (other : rule ≢ 307). c.earlier_link-earlier.ensures.others (rw c.in-Err-Broken.field-0-is other) in
-    subst (λ (f : RecordFault). IsEarlierLinkIfAny s list f c.broken-in-Err-Broken.result.earlier) (sym fault)
+    subst (λ (f : RecordFault). IsEarlierLinkIfAny s list f c.broken_rule-in-Err-Broken.result.earlier) (sym fault)
     (subst (IsEarlierLinkIfAny s list (Broken rule (place + 1))) (sym told.earlier) (found, others))
 
 pub loop-record-preserved : goal.loop-record-preserved

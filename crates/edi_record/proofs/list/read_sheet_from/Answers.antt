@@ -11,7 +11,7 @@ pub invariant_of-sheet : goal.invariant_of-sheet
 invariant_of-sheet g c =
     let h = c.in_ok-cse.ensures.groups in
     let list = (made_of_file (file_bytes c.args.file) c.in_ok-cse.cse c.new.result c.read_groups_from.new.out.records.list c.read_groups_from.new.out.records.fault _ _ _ h c.new.ensures c.requires.none_taken c.in-None.is).0 in
-    record { few = (made_few (groups_of h.zones) c.read_groups_from.new.out.records.list list h.few); in_shape = list.shape }
+    record { few = (made_few (groups_of h.zones) c.read_groups_from.new.out.records.list list h.few); shape = list.shape }
 
 pub returns-in-Some-clause-refusal : goal.returns-in-Some-clause-refusal
 returns-in-Some-clause-refusal g c =

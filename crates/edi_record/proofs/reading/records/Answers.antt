@@ -6,7 +6,7 @@ use Rattle.edi_record.proofs.StatesSaid.{all_said}
 use Rattle.edi_record.proofs.reading.records.Goals as goal
 
 pub invariant_of-result : goal.invariant_of-result
-invariant_of-result c = record { few = c.in_ok-list.ensures.few; in_shape = c.in_ok-list.ensures.shape }
+invariant_of-result c = record { few = c.in_ok-list.ensures.few; shape = c.in_ok-list.ensures.shape }
 
 pub returns-in_err-list-clause-least : goal.returns-in_err-list-clause-least
 returns-in_err-list-clause-least c =

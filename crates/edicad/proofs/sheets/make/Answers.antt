@@ -14,7 +14,7 @@ use Rattle.edicad.proofs.sheets.make.Goals as goal
 pub returns-clause-ok : goal.returns-clause-ok
 returns-clause-ok g c =
     let contents = g.F.Reader.ByteIn.contents in
-    IfOk-weaker c.made_of.result _ _
+    IfOk-weaker c.product_of.result _ _
     (λ v h. (
       contents c.in_ok-scd.scd,
       contents c.in_ok-dic.dic,
@@ -25,7 +25,7 @@ returns-clause-ok g c =
       three_kept c.kinds.result.now c.args.kinds.now c.kinds.ensures _ (contents c.in_ok-scd.scd) c.in_ok-classes.classes.items (c.new-kept.ensures ∙ ap Some c.deref.ensures.value) c.in_ok-classes.ensures.all
           (contents c.in_ok-dic.dic) (contents c.in_ok-vec.vec) (λ l s d b. IsMadeOf c.args.product l c.args.files.now.vec.now s d b v.items) h,
     ))
-    c.made_of.ensures.ok
+    c.product_of.ensures.ok
 
 pub returns-clause-err : goal.returns-clause-err
 returns-clause-err g c =
@@ -35,12 +35,12 @@ returns-clause-err g c =
     let kinds = c.args.kinds.now in
     let files = c.args.files.now in
     let real = seen reader c.in_ok-scd.scd c.read_classes.new.reader in
-    file_fault inputs kinds files real (seen reader c.in_ok-dic.dic c.made_of.new.dic) (seen reader c.in_ok-vec.vec c.made_of.new.vec) c.in_ok-scd.ensures.ok c.in_ok-dic.ensures.ok c.in_ok-vec.ensures.ok
+    file_fault inputs kinds files real (seen reader c.in_ok-dic.dic c.product_of.new.dic) (seen reader c.in_ok-vec.vec c.product_of.new.vec) c.in_ok-scd.ensures.ok c.in_ok-dic.ensures.ok c.in_ok-vec.ensures.ok
     (failed_at g.F.Folder g.F.Reader.ByteIn folder files.scd.now c.in_ok-scd.scd c.read_classes.new.reader c.in_ok-scd.ensures.device)
-    (failed_at g.F.Folder g.F.Reader.ByteIn folder files.dic.now c.in_ok-dic.dic c.made_of.new.dic c.in_ok-dic.ensures.device)
-    (failed_at g.F.Folder g.F.Reader.ByteIn folder files.vec.now c.in_ok-vec.vec c.made_of.new.vec c.in_ok-vec.ensures.device)
-    c.made_of.result (λ _. ⊥) (if_err_map c.made_of.result _ _ (files_kept c.kinds.result.now kinds c.kinds.ensures real _ c.in_ok-classes.classes.items (c.new-kept.ensures ∙ ap Some c.deref.ensures.value) refl c.in_ok-classes.ensures.read c.in_ok-classes.ensures.all
-    (seen reader c.in_ok-dic.dic c.made_of.new.dic) (seen reader c.in_ok-vec.vec c.made_of.new.vec) (λ _. ⊥)) c.made_of.ensures.err)
+    (failed_at g.F.Folder g.F.Reader.ByteIn folder files.dic.now c.in_ok-dic.dic c.product_of.new.dic c.in_ok-dic.ensures.device)
+    (failed_at g.F.Folder g.F.Reader.ByteIn folder files.vec.now c.in_ok-vec.vec c.product_of.new.vec c.in_ok-vec.ensures.device)
+    c.product_of.result (λ _. ⊥) (if_err_map c.product_of.result _ _ (files_kept c.kinds.result.now kinds c.kinds.ensures real _ c.in_ok-classes.classes.items (c.new-kept.ensures ∙ ap Some c.deref.ensures.value) refl c.in_ok-classes.ensures.read c.in_ok-classes.ensures.all
+    (seen reader c.in_ok-dic.dic c.product_of.new.dic) (seen reader c.in_ok-vec.vec c.product_of.new.vec) (λ _. ⊥)) c.product_of.ensures.err)
 
 pub returns-in_err-classes-clause-err : goal.returns-in_err-classes-clause-err
 returns-in_err-classes-clause-err g c =
@@ -63,7 +63,7 @@ returns-clause-noted g c =
     let inputs = inputs g.F.Folder reader folder in
     let kinds = c.args.kinds.now in
     let files = c.args.files.now in
-    ok_whatever c.made_of.result _
+    ok_whatever c.product_of.result _
     (note_given inputs kinds files.scd.now (reader.contents c.in_ok-scd.scd) c.in_ok-classes.classes.items c.read_classes.new.note.items c.in_ok-scd.ensures.ok
     c.in_ok-classes.ensures.all c.in_ok-classes.ensures.note)
 
@@ -74,7 +74,7 @@ returns-clause-unnoted g c =
     let inputs = inputs g.F.Folder reader folder in
     let kinds = c.args.kinds.now in
     let files = c.args.files.now in
-    err_anyway c.made_of.result _
+    err_anyway c.product_of.result _
     (λ e. inl (note_given inputs kinds files.scd.now (reader.contents c.in_ok-scd.scd) c.in_ok-classes.classes.items c.read_classes.new.note.items c.in_ok-scd.ensures.ok
     c.in_ok-classes.ensures.all c.in_ok-classes.ensures.note))
 

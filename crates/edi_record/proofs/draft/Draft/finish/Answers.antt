@@ -98,7 +98,7 @@ returns-clause-states c = λ group one k h.
     let d = kept c.args.self.now c.args.parts.now in
     record {
       type = type_is (values (codes "RTY") group) d.kind one k;
-      rid = (c.in-Some.ensures (values (codes "RID") group) h.identifier).1 ∙ ap (λ t. t ∷ []) (sym c.in_ok-from_slice.ensures);
+      rid = (c.in-Some.ensures (values (codes "RID") group) h.identifier).1 ∙ ap (λ t. t ∷ []) (sym c.in_ok-of.ensures);
       scp = (c.in-Some-class_pointer.ensures (values (codes "SCP") group) h.class).1 ∙ ap (λ n. Some n ∷ []) (sym c.in_ok-class.ensures);
       points = c.in_ok-finish-2.ensures.states group h.points;
       ends = c.in_ok-finish-3.ensures.states group h.ends;
