@@ -10,6 +10,7 @@ use crate::command_line::command;
 use crate::given_kinds::GivenKinds;
 use clap::error::ErrorKind;
 use clap::{ArgMatches, Error};
+use edi_schema::ByRole;
 use std::alloc::{AllocError, Global};
 
 // The path that stands for a standard stream.
@@ -672,13 +673,13 @@ fn kinds_in(text: &str) -> Result<GivenKinds<'_>, KindsFault<'_>>
     let Some((initial, final_node, left, right)) = four_codes(text) else {
         return Err(KindsFault::Count);
     };
-    let kinds = GivenKinds::new(
-        initial.as_bytes(),
-        final_node.as_bytes(),
-        left.as_bytes(),
-        right.as_bytes(),
-    );
-    match kinds {
+    let codes = ByRole {
+        initial: initial.as_bytes(),
+        final_node: final_node.as_bytes(),
+        left: left.as_bytes(),
+        right: right.as_bytes(),
+    };
+    match GivenKinds::new(codes) {
         Some(kinds) => Ok(kinds),
         None => Err(fault_of_four(initial, final_node, left, right)),
     }
