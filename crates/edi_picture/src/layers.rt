@@ -156,8 +156,8 @@ fn push_node_layer(
     put(text, b"</g>\n")
 }
 
-/// Appends all of these: of the arcs those that both sheets have below those of the second, and these below those of the
-/// first; of the nodes those of the second above the wider ones of the first.
+/// Appends all of these. Arcs that both sheets have lie below those of the second, and these below those of the first;
+/// nodes of the second lie above the wider ones of the first.
 fn push_layers(
     alloc: Global,
     canvas: &Canvas<'_>,

@@ -146,8 +146,8 @@ pub enum PairRequest<'a> {
         pairing: &'a str,
         json: bool,
     },
-    /// What differs between them, object by object, record by record or as lines of JSON, or only how many records
-    /// differ; the identifiers, parted by commas, of the attributes that name objects; and where a picture of that goes.
+    /// What differs between them, object by object, record by record or as lines of JSON, or only how many records do;
+    /// the identifiers, parted by commas, of the attributes that name objects; and where a picture of that goes.
     Diff {
         brief: bool,
         records: bool,
