@@ -49,8 +49,8 @@ one_record kind points mark = record {
 }
 
 -- a sheet of one node, so far across
-abbrev pub one_node : ℕ → Mark → Sheet
-one_node x mark = one_record Pno (known_point x 20000000 ∷ []) mark
+abbrev pub lone_node : ℕ → Mark → Sheet
+lone_node x mark = one_record Pno (known_point x 20000000 ∷ []) mark
 
 -- a frame from 0.5 to 3, and from 0 to 22.5
 abbrev pub frame : Extent
