@@ -128,6 +128,24 @@ fn pairing_of(alloc: Global, text: &str) -> Result<Pairing, AllocError> {
     })
 }
 
+// Both sheets of a case, or which of them is refused first, and why.
+fn accept_both(
+    alloc: Global,
+    schema: &Schema,
+    case: &Case<'_>,
+) -> Result<(Accepted, Accepted), (&'static str, Fault)>
+    ensures { IfOk result (λ both. HasClasses schema.now both.0) }
+{
+    let first = match accept(alloc, schema, case.input(0).as_bytes()) {
+        Ok(first) => first,
+        Err(fault) => return Err(("first ", fault)),
+    };
+    match accept(alloc, schema, case.input(1).as_bytes()) {
+        Ok(second) => Ok((first, second)),
+        Err(fault) => Err(("second ", fault)),
+    }
+}
+
 // Whether a pairing carries the plan of the first sheet onto that of the second, both of which are to be accepted.
 fn push_carries(
     alloc: Global,
@@ -136,33 +154,10 @@ fn push_carries(
     pairing: &Pairing,
     text: &mut String,
 ) -> Result<(), AllocError> {
-    match accept_sheet(alloc, schema, case.input(0).as_bytes()) {
-        Ok(first) => push_carries_from(alloc, schema, &first, case, pairing, text),
-        Err(fault) => push_sheet_fault(text, "first ", fault),
+    match accept_both(alloc, schema, case) {
+        Ok((first, second)) => push_answer(alloc, schema, &first, &second, pairing, text),
+        Err((which, fault)) => push_sheet_fault(text, which, fault),
     }
-}
-
-// The same of a first sheet that is accepted.
-fn push_carries_from(
-    alloc: Global,
-    schema: &Schema,
-    first: &Accepted,
-    case: &Case<'_>,
-    pairing: &Pairing,
-    text: &mut String,
-) -> Result<(), AllocError>
-    requires { HasClasses schema.now first.now }
-{
-    match accept(alloc, schema, case.input(1).as_bytes()) {
-        Ok(second) => push_answer(alloc, schema, first, &second, pairing, text),
-        Err(fault) => push_sheet_fault(text, "second ", fault),
-    }
-}
-
-fn accept_sheet(alloc: Global, schema: &Schema, sheet: &[u8]) -> Result<Accepted, Fault>
-    ensures { IfOk result (HasClasses schema.now) }
-{
-    accept(alloc, schema, sheet)
 }
 
 // What `check_pairing` answers. Where memory ran out it may be there again for the same sheets.
@@ -191,29 +186,12 @@ pub(crate) fn push_uncarried(
     text: &mut String,
 ) -> Result<(), AllocError> {
     let pairing = pairing_of(alloc, case.input(2))?;
-    match accept_sheet(alloc, schema, case.input(0).as_bytes()) {
-        Ok(first) => push_uncarried_from(alloc, schema, &first, case, &pairing, text),
-        Err(fault) => push_sheet_fault(text, "first ", fault),
-    }
-}
-
-// The same of a first sheet that is accepted.
-fn push_uncarried_from(
-    alloc: Global,
-    schema: &Schema,
-    first: &Accepted,
-    case: &Case<'_>,
-    pairing: &Pairing,
-    text: &mut String,
-) -> Result<(), AllocError>
-    requires { HasClasses schema.now first.now }
-{
-    match accept(alloc, schema, case.input(1).as_bytes()) {
-        Ok(second) => {
-            let why = first_uncarried(alloc, schema, first, &second, pairing)?;
+    match accept_both(alloc, schema, case) {
+        Ok((first, second)) => {
+            let why = first_uncarried(alloc, schema, &first, &second, &pairing)?;
             push_reason(text, why)
         }
-        Err(fault) => push_sheet_fault(text, "second ", fault),
+        Err((which, fault)) => push_sheet_fault(text, which, fault),
     }
 }
 

@@ -1,6 +1,6 @@
 -- A file of classes that was read, and is read once more from what was kept of it.
-use Rattle.std.proofs.Common.{◌≡◌, ◌≤◌, ◌<◌, ◌∙◌, ℕ, Bool, false, List, length, Option, Some, None, IfSome, IsTrue, Result, Ok, Err, IfErr, OnOk, sym, ap, subst, arith}
-use Rattle.std.specs.Prelude.{IfOk, ⊤}
+use Rattle.std.proofs.Common.{◌≡◌, ◌≤◌, ◌<◌, ◌∙◌, ℕ, Bool, false, List, length, Option, Some, None, IfSome, IsTrue, sym, ap, subst, arith}
+use Rattle.std.specs.Prelude.{⊤}
 use Rattle.std.specs.Bool.{MatchBool}
 use Rattle.edi_schema.specs.Roles.{KindCodes}
 use Rattle.edi_compare.specs.declared.fault.RunFault.{RunFault}
@@ -86,17 +86,3 @@ note_given inputs kinds path a x note gives all h = (
   names_some_kinds kinds x (shown_bytes (input_name path)) note h,
   one_known a x (λ scd. IsNoteOn kinds scd (shown_bytes (input_name path)) note) all h,
 )
-
--- ---- what holds anyway
-
-pub ok_anyway : {T E : Type 0} (r : Result T E) (P : Type 0) → P → OnOk r P
-ok_anyway (Ok v) P h = h
-ok_anyway (Err e) P h = tt
-
-pub ok_whatever : {T E : Type 0} (r : Result T E) (P : Type 0) → P → IfOk r (λ _. P)
-ok_whatever (Ok v) P h = h
-ok_whatever (Err e) P h = tt
-
-pub err_anyway : {T E : Type 0} (r : Result T E) (P : E → Type 0) → ((e : E) → P e) → IfErr r P
-err_anyway (Ok v) P f = tt
-err_anyway (Err e) P f = f e

@@ -9,6 +9,7 @@ pub mod Made
 pub mod Names
 pub mod Noted
 pub mod OneSheet
+pub mod PairRuns
 pub mod Pairings
 pub mod Refusals
 pub mod Replies

@@ -1,7 +1,10 @@
 -- Two sheets that were read, and loaded under their schema.
 use Rattle.std.proofs.Common.{◌≡◌, ◌≤◌, ℕ, zero, suc, List, IfSome, Result, Ok, Err, IfErr, OnOk, sym, subst, inr, arith}
 use Rattle.std.specs.Prelude.{IfOk}
+use Rattle.edi_line.specs.FileBytes.{file_bytes}
 use Rattle.edi_line.specs.declared.device.ByteIn as byte_in
+use Rattle.edi_line.specs.declared.file.FileBytes.{FileBytes}
+use Rattle.edi_schema.specs.Classes.{Classes}
 use Rattle.edi_schema.specs.Roles.{KindCodes}
 use Rattle.edi_schema.specs.SchemaRefusal.{IsGoodSchema}
 use Rattle.edi_compare.specs.Faults.{of_pair}
@@ -22,7 +25,6 @@ use Rattle.edi_pairing.specs.declared.writing.Compared.{Compared}
 use Rattle.edi_pairing.specs.declared.writing.Compared.TheVariants.{Same, Different}
 use Rattle.edi_files.specs.declared.folder.Folder as folder
 use Rattle.edi_words.specs.declared.words.PairFiles.{PairFiles}
-use Rattle.edi_answers.specs.declared.pair_inputs.LoadedPair.{LoadedPair}
 use Rattle.edi_answers.specs.Effects.{Inputs, inputs}
 use Rattle.edi_answers.specs.PairInputs.{ArePairBytes, ArePairInputs, ArePairReaders, AreUnread, IsLoadedPair, IsOpenedAt, IsReadAt, IsUnreadAt}
 use Rattle.edi_answers.specs.SheetRuns.{AreFourThere, HasFailedAt, HoldsTooMuch, MatchPairFault, OfFive, OfPair, PairFileFault, VerifyFileFault, pair_path_at, verify_path_at}
@@ -136,32 +138,32 @@ module _ (inputs : Inputs) (kinds : KindCodes) (files : PairFiles) where
 
 -- ---- two sheets that were loaded
 
-module _ (inputs : Inputs) (kinds : KindCodes) (files : PairFiles) (pair : LoadedPair) (loaded : OfPair inputs files (IsLoadedPair kinds pair)) where
+module _ (inputs : Inputs) (kinds : KindCodes) (files : PairFiles) (pair : Classes × FileBytes × FileBytes) (loaded : OfPair inputs files (IsLoadedPair kinds pair)) where
   -- what holds of them holds of what the files hold
   pub of_loaded : (P : List ℕ → List ℕ → Type 0) (Q : List ℕ → List ℕ → List ℕ → List ℕ → Type 0)
-      → ((s d a b : List ℕ) → IsGoodSchema s d kinds pair.schema → P a b → Q s d a b) → P pair.first pair.second → OfPair inputs files Q
+      → ((s d a b : List ℕ) → IsGoodSchema s d kinds pair.0 → P a b → Q s d a b) → P (file_bytes pair.1) (file_bytes pair.2) → OfPair inputs files Q
   of_loaded P Q f p =
-      pair_map inputs files _ _ (λ s d a b u. f s d a b u.0 (subst (λ t. P a t) u.2 (subst (λ t. P t pair.second) u.1 p))) loaded
+      pair_map inputs files _ _ (λ s d a b u. f s d a b u.0 (subst (λ t. P a t) u.2 (subst (λ t. P t (file_bytes pair.2)) u.1 p))) loaded
 
   -- the refusal of one of them
-  refused : (R T W : ℕ → Type 0) (f : CompareFault) → IsPairRefusal pair.schema pair.first pair.second f → MatchPairFault inputs kinds files R T W (of_pair f)
+  refused : (R T W : ℕ → Type 0) (f : CompareFault) → IsPairRefusal pair.0 (file_bytes pair.1) (file_bytes pair.2) f → MatchPairFault inputs kinds files R T W (of_pair f)
   refused R T W (sheets.Memory e) h = tt
-  refused R T W (sheets.First f) h = of_loaded (λ a b. IsRefusal pair.schema a f) _ (λ s d a b good r. (pair.schema, good, h.0, r)) h.1
+  refused R T W (sheets.First f) h = of_loaded (λ a b. IsRefusal pair.0 a f) _ (λ s d a b good r. (pair.0, good, h.0, r)) h.1
   refused R T W (sheets.Second f) h =
-      of_loaded (λ a b. IsAccepted pair.schema a × IsRefusal pair.schema b f) _ (λ s d a b good r. (pair.schema, good, r.0, h.1, r.1)) (h.0, h.2)
+      of_loaded (λ a b. IsAccepted pair.0 a × IsRefusal pair.0 b f) _ (λ s d a b good r. (pair.0, good, r.0, h.1, r.1)) (h.0, h.2)
 
-  pub refused_pair : (f : CompareFault) → IsPairRefusal pair.schema pair.first pair.second f → PairFileFault inputs kinds files (λ _. ⊥) (of_pair f)
+  pub refused_pair : (f : CompareFault) → IsPairRefusal pair.0 (file_bytes pair.1) (file_bytes pair.2) f → PairFileFault inputs kinds files (λ _. ⊥) (of_pair f)
   refused_pair f h = inr (were_four inputs files _ loaded, refused _ _ _ f h)
 
   -- what a comparison answers
-  pub compared_pair : (compared : Compared) → IsAccepted pair.schema pair.first → IsAccepted pair.schema pair.second → IsComparedTo pair.schema pair.first pair.second compared
+  pub compared_pair : (compared : Compared) → IsAccepted pair.0 (file_bytes pair.1) → IsAccepted pair.0 (file_bytes pair.2) → IsComparedTo pair.0 (file_bytes pair.1) (file_bytes pair.2) compared
       → OfPair inputs files (λ s d a b. IsComparedUnder kinds s d a b compared)
   compared_pair (Same file) first second h =
-      of_loaded (λ a b. IsAccepted pair.schema a × IsAccepted pair.schema b × IsComparedTo pair.schema a b (Same file)) _
-      (λ s d a b good u. (pair.schema, u.2.0, good, u.0, u.1, u.2.1, u.2.2)) (first, second, h)
+      of_loaded (λ a b. IsAccepted pair.0 a × IsAccepted pair.0 b × IsComparedTo pair.0 a b (Same file)) _
+      (λ s d a b good u. (pair.0, u.2.0, good, u.0, u.1, u.2.1, u.2.2)) (first, second, h)
   compared_pair (Different line) first second h =
-      of_loaded (λ a b. IsAccepted pair.schema a × IsAccepted pair.schema b × IsComparedTo pair.schema a b (Different line)) _
-      (λ s d a b good u. (pair.schema, good, u.0, u.1, u.2)) (first, second, h)
+      of_loaded (λ a b. IsAccepted pair.0 a × IsAccepted pair.0 b × IsComparedTo pair.0 a b (Different line)) _
+      (λ s d a b good u. (pair.0, good, u.0, u.1, u.2)) (first, second, h)
 
   module _ (pairing file : List ℕ) (read : IsReadAt inputs pairing file) where
     five_known : (Q : List ℕ → List ℕ → List ℕ → List ℕ → List ℕ → Type 0) → OfPair inputs files (λ s d a b. Q s d a b file) → OfFive inputs files pairing Q
@@ -180,21 +182,21 @@ module _ (inputs : Inputs) (kinds : KindCodes) (files : PairFiles) (pair : Loade
     )
 
     -- what the check of a pairing's file answers
-    pub verified_pair : (answer : Verified) → IsAccepted pair.schema pair.first → IsAccepted pair.schema pair.second → IsVerified pair.schema pair.first pair.second file answer
+    pub verified_pair : (answer : Verified) → IsAccepted pair.0 (file_bytes pair.1) → IsAccepted pair.0 (file_bytes pair.2) → IsVerified pair.0 (file_bytes pair.1) (file_bytes pair.2) file answer
         → OfFive inputs files pairing (λ s d a b f. IsVerifiedUnder kinds s d a b f answer)
     verified_pair answer first second h =
         five_known _
-        (of_loaded (λ a b. IsAccepted pair.schema a × IsAccepted pair.schema b × IsVerified pair.schema a b file answer) _ (λ s d a b good u. (pair.schema, good, u.0, u.1, u.2)) (first, second, h))
+        (of_loaded (λ a b. IsAccepted pair.0 a × IsAccepted pair.0 b × IsVerified pair.0 a b file answer) _ (λ s d a b good u. (pair.0, good, u.0, u.1, u.2)) (first, second, h))
 
-    sheet_refused : (f : CompareFault) → IsPairRefusal pair.schema pair.first pair.second f → MatchPairFault inputs kinds files (λ n. (1 ≤ n) × (n ≤ 5) × HasFailedAt inputs (verify_path_at files pairing n)) (λ n. (1 ≤ n) × (n ≤ 5) × HoldsTooMuch inputs (verify_path_at files pairing n)) (λ _. ⊥) (of_pair f)
+    sheet_refused : (f : CompareFault) → IsPairRefusal pair.0 (file_bytes pair.1) (file_bytes pair.2) f → MatchPairFault inputs kinds files (λ n. (1 ≤ n) × (n ≤ 5) × HasFailedAt inputs (verify_path_at files pairing n)) (λ n. (1 ≤ n) × (n ≤ 5) × HoldsTooMuch inputs (verify_path_at files pairing n)) (λ _. ⊥) (of_pair f)
     sheet_refused f h = refused _ _ _ f h
 
     -- and why it doesn't
-    pub refused_five : (f : VerifyFault) → IsVerifyRefusal pair.schema pair.first pair.second file f
+    pub refused_five : (f : VerifyFault) → IsVerifyRefusal pair.0 (file_bytes pair.1) (file_bytes pair.2) file f
         → MatchRun (of_verify f) (VerifyFileFault inputs kinds files pairing) (λ at why. OfFive inputs files pairing (λ s d a b t. RefusesFile kinds s d a b t at why))
     refused_five (verify.Memory e) h = inr ((were_four inputs files _ loaded, (read.0, read.1)), tt)
     refused_five (verify.First f) h = inr ((were_four inputs files _ loaded, (read.0, read.1)), sheet_refused (sheets.First f) h)
     refused_five (verify.Second f) h = inr ((were_four inputs files _ loaded, (read.0, read.1)), sheet_refused (sheets.Second f) h)
     refused_five (verify.Pairing at why) h =
         five_known _
-        (of_loaded (λ a b. IsAccepted pair.schema a × IsAccepted pair.schema b × IsFirstWrongOf a b file at why) _ (λ s d a b good u. (pair.schema, good, u.0, u.1, u.2)) h)
+        (of_loaded (λ a b. IsAccepted pair.0 a × IsAccepted pair.0 b × IsFirstWrongOf a b file at why) _ (λ s d a b good u. (pair.0, good, u.0, u.1, u.2)) h)

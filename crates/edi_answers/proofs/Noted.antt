@@ -1,6 +1,6 @@
 -- The note that a command hands on, with its status.
-use Rattle.std.proofs.Common.{ℕ, false, List, Option, Some, None, Result, Ok, Err, IfErr, inl, inr, ◌∙◌, ap, arith}
-use Rattle.std.specs.Prelude.{IfOk}
+use Rattle.std.proofs.Common.{◌≡◌, ℕ, false, List, Option, Some, None, Result, Ok, Err, inl, inr, sym, subst, ◌∙◌, ap, arith}
+use Rattle.std.specs.Result.{IsErrAnd}
 use Rattle.edi_line.specs.LineRules.{BreaksLineRule}
 use Rattle.edi_line.specs.Refusal.{IsUnbroken}
 use Rattle.edi_schema.specs.Roles.{KindCodes}
@@ -8,13 +8,12 @@ use Rattle.edi_compare.specs.declared.fault.RunFault.{RunFault}
 use Rattle.edi_compare.specs.declared.pairing.Verdict.{Verdict}
 use Rattle.edi_compare.specs.declared.pairing.Verdict.TheVariants as verdict
 use Rattle.edi_files.specs.Reasons.{Why}
-use Rattle.edi_pairing.specs.UnderFiles.{MatchRun}
 use Rattle.edi_pairing.specs.declared.verified.Verified.{Verified}
 use Rattle.edi_pairing.specs.declared.verified.Verified.TheVariants.{Carries, Fails}
 use Rattle.edi_pairing.specs.declared.fault.VerifyRunFault.{VerifyRunFault}
 use Rattle.edi_pairing.specs.declared.fault.VerifyRunFault.TheVariants.{Run, Pairing as OfPairingFile}
 use Rattle.edi_answers.specs.Effects.{Inputs, Stream}
-use Rattle.edi_answers.specs.Notes.{GivesNote, HasNoteOf, IsNote, IsNoteOn, NamesSomeKinds, note_line}
+use Rattle.edi_answers.specs.Notes.{GivesNote, HasNoteOf, IsNote, IsNoteOn, LeavesNote, LeavesNoteOfFive, NamesSomeKinds, note_line}
 use Rattle.edi_outcome.specs.Status.{status_for, status_of_fault}
 use Rattle.edi_answers.specs.Statuses.{IsAnsweredAs, IsWarned}
 use Rattle.edi_answers.specs.inner.Outcome.{outcome_for, paired_outcome, verified_outcome}
@@ -48,22 +47,29 @@ module _ (inputs : Inputs) (kinds : KindCodes) (path old new : List ℕ) where
   note_warned why err e paths s (inr said) (inr h) = inr (omega (arith, said.0), h.1)
 
   -- where a run over two sheets came to an outcome
-  pub note_compared : (r : Result Verdict RunFault) → IfOk r (λ _. GivesNote inputs kinds path new)
-      → IfErr r (λ e. HasNoteOf inputs kinds path (status_of_fault e) old new) → HasNoteOf inputs kinds path (status_for (outcome_for r)) old new
-  note_compared (Ok (verdict.Same pairing)) given none = inl given
-  note_compared (Ok (verdict.Different line)) given none = inl given
-  note_compared (Err e) none has = has
+  pub note_compared : (r : Result Verdict RunFault) → LeavesNote inputs kinds path old new r → HasNoteOf inputs kinds path (status_for (outcome_for r)) old new
+  note_compared (Ok (verdict.Same pairing)) h = inl h
+  note_compared (Ok (verdict.Different line)) h = inl h
+  note_compared (Err e) h = h
 
-  pub note_paired : (r : Result (Option ℕ) RunFault) → IfOk r (λ _. GivesNote inputs kinds path new)
-      → IfErr r (λ e. HasNoteOf inputs kinds path (status_of_fault e) old new) → HasNoteOf inputs kinds path (status_for (paired_outcome r)) old new
-  note_paired (Ok None) given none = inl given
-  note_paired (Ok (Some line)) given none = inl given
-  note_paired (Err e) none has = has
+  pub note_paired : (r : Result (Option ℕ) RunFault) → LeavesNote inputs kinds path old new r → HasNoteOf inputs kinds path (status_for (paired_outcome r)) old new
+  note_paired (Ok None) h = inl h
+  note_paired (Ok (Some line)) h = inl h
+  note_paired (Err e) h = h
 
-  pub note_verified : (r : Result Verified VerifyRunFault) → IfOk r (λ _. GivesNote inputs kinds path new)
-      → IfErr r (λ e. MatchRun e (λ f. HasNoteOf inputs kinds path (status_of_fault f) old new) (λ _ _. GivesNote inputs kinds path new))
-      → HasNoteOf inputs kinds path (status_for (verified_outcome r)) old new
-  note_verified (Ok Carries) given none = inl given
-  note_verified (Ok (Fails why)) given none = inl given
-  note_verified (Err (Run f)) none has = has
-  note_verified (Err (OfPairingFile at why)) none given = inl given
+  pub note_verified : (r : Result Verified VerifyRunFault) → LeavesNoteOfFive inputs kinds path old new r → HasNoteOf inputs kinds path (status_for (verified_outcome r)) old new
+  note_verified (Ok Carries) h = inl h
+  note_verified (Ok (Fails why)) h = inl h
+  note_verified (Err (Run f)) h = h
+  note_verified (Err (OfPairingFile at why)) h = inl h
+
+  -- the fault that is handed on
+  pub note_failed : {T : Type 0} (r : Result T RunFault) (fault : RunFault) → IsErrAnd r (λ e. e ≡ fault) → HasNoteOf inputs kinds path (status_of_fault fault) old new
+      → LeavesNote inputs kinds path old new r
+  note_failed (Ok x) fault same h = absurd same
+  note_failed (Err e) fault same h = subst (λ (f : RunFault). HasNoteOf inputs kinds path (status_of_fault f) old new) (sym same) h
+
+  -- whatever a run comes to, once the note was given
+  pub note_anyway : {T : Type 0} (r : Result T RunFault) → GivesNote inputs kinds path new → LeavesNote inputs kinds path old new r
+  note_anyway (Ok x) given = given
+  note_anyway (Err e) given = inl given

@@ -40,11 +40,6 @@ pair_unwritten inputs kinds files W (First f) (inr h) = inr h
 pair_unwritten inputs kinds files W (Second f) (inr h) = inr h
 pair_unwritten inputs kinds files W (Write w) (inr h) = absurd h.1
 
-pub paired_names : (r : Result (Option ℕ) RunFault) → IfErr r (λ e. FaultHasNames e 5) → HasNames (paired_outcome r) 5
-paired_names (Ok None) h = tt
-paired_names (Ok (Some line)) h = tt
-paired_names (Err e) h = h
-
 pub put_pair_tried : (run : Effects) (IsMade : List ℕ → List ℕ → List ℕ → List ℕ → List ℕ → Type 0) (kinds : KindCodes) (files : PairFiles) (path : List ℕ) (e : RunFault)
     → PutPairFault run IsMade kinds files path e → IsPairInput run.is_one files path ⊎ AreFourTried run.inputs files
 put_pair_tried run IsMade kinds files path e (inl input) = inl input.0

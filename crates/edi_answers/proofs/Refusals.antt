@@ -1,5 +1,6 @@
 -- The status of a run that has no answer, and what a refusal says.
-use Rattle.std.proofs.Common.{◌≡◌, ◌≢◌, ◌⊎◌, ◌≤◌, ℕ, Bool, List, [], Option, None, IfSome, codes, length, refl, sym, subst, ◌∙◌, ap, inl, inr, arith, ◌<◌, Result, Ok, Err, IfOk, IfErr, append-nil, ◌++◌}
+use Rattle.std.proofs.Common.{◌≡◌, ◌≢◌, ◌⊎◌, ◌≤◌, ℕ, Bool, List, [], Option, None, IfSome, codes, length, refl, sym, subst, ◌∙◌, ap, inl, inr, arith, ◌<◌, Result, Ok, Err, append-nil, ◌++◌}
+use Rattle.std.specs.Prelude.{MatchResult}
 use Rattle.edi_schema.specs.Roles.{KindCodes}
 use Rattle.edi_schema.specs.declared.fault.SchemaFault.{SchemaFault}
 use Rattle.edi_schema.specs.declared.fault.SchemaFault.TheVariants as schema
@@ -17,7 +18,7 @@ use Rattle.edi_words.specs.declared.words.SheetFiles.{SheetFiles}
 use Rattle.edi_files.specs.declared.reason.Reason.{Reason}
 use Rattle.edi_files.specs.Reasons.{Why, ended}
 use Rattle.edi_outcome.specs.Status.{status_for, status_of_fault, status_of_schema, status_of_sheet}
-use Rattle.edi_outcome.specs.Words.{FaultHasNames, HasNames, first_text, sheet_text, words_for, words_of_fault}
+use Rattle.edi_outcome.specs.Words.{first_text, sheet_text, words_for, words_of_fault}
 use Rattle.edi_answers.specs.Paths.{names_of_paths}
 use Rattle.edi_answers.specs.inner.Outcome.{outcome_for}
 use Rattle.edi_outcome.specs.declared.outcome.Outcome.TheVariants as outcome
@@ -277,32 +278,26 @@ not_one_of_zero s one (inr (inr e)) = absurd (omega (arith, e.1, one))
 
 -- the status of a comparison
 module _ (run : Effects) (out err : Stream) (kinds : KindCodes) (files : PairFiles) (form : AnswerForm) (s : ℕ) where
-  pub compare_status : (r : Result Verdict RunFault) → IfOk r (λ v. OfPair run.inputs files (λ scd dic a b. IsVerdictOf kinds scd dic a b v))
-      → IfErr r (PairFileFault run.inputs kinds files (λ _. ⊥)) → IsSaid run.why out err form (outcome_for r) (pair_paths_of files (codes "-")) s
-      → IsCompareStatus run out err kinds files form s
-  compare_status (Ok (verdict.Same pairing)) h fault said = record {
+  pub compare_status : (r : Result Verdict RunFault)
+      → MatchResult r (λ v. OfPair run.inputs files (λ scd dic a b. IsVerdictOf kinds scd dic a b v)) (PairFileFault run.inputs kinds files (λ _. ⊥))
+      → IsSaid run.why out err form (outcome_for r) (pair_paths_of files (codes "-")) s → IsCompareStatus run out err kinds files form s
+  compare_status (Ok (verdict.Same pairing)) h said = record {
     tried = inl (were_four run.inputs files _ h);
     different = λ one. absurd (not_one_of_zero s one said.status);
     means = means_answer _ _ _ run.why (pair_paths_of files (codes "-")) out err s outcome.Same (omega arith) (λ zero. ((pairing, h), said.answer (omega (arith, zero)))) said;
   }
-  compare_status (Ok (verdict.Different at)) h fault said = record {
+  compare_status (Ok (verdict.Different at)) h said = record {
     tried = inl (were_four run.inputs files _ h);
     different = λ one. (at, h, said.answer (omega (arith, one)));
     means = means_answer _ _ _ run.why (pair_paths_of files (codes "-")) out err s (outcome.Different at) (omega arith)
         (λ zero. absurd (not_zero_of_one s zero said.status)) said;
   }
-  compare_status (Err e) ok h said = record {
+  compare_status (Err e) h said = record {
     tried = pair_tried run.inputs kinds files (λ _. ⊥) e h;
     different = λ one. absurd (not_one s (known_fault (status_of_fault e) s (fault_status e) said.status) one);
     means = means_fault _ _ _ run.why (pair_paths_of files (codes "-")) out err s e (λ silent. (h, silent))
         (λ is line. pair_faulted (λ f. AnswersIn out err form (pair_paths_of files (codes "-")) (outcome.Fault f)) kinds run.inputs files (λ _. ⊥) e h is line) said;
   }
-
--- the names that the line of a comparison needs
-pub compare_names : (r : Result Verdict RunFault) → IfErr r (λ e. FaultHasNames e 5) → HasNames (outcome_for r) 5
-compare_names (Ok (verdict.Same pairing)) h = tt
-compare_names (Ok (verdict.Different line)) h = tt
-compare_names (Err e) h = h
 
 -- what was said of a fault that standard error was told, where the output is as it was
 pub said_of_warned : (why : Why) (stream : Option (List ℕ)) (failed : Bool) (err : Stream) (form : AnswerForm) (e : RunFault) (paths : List (List ℕ)) (s : ℕ) → 3 ≤ status_of_fault e

@@ -76,8 +76,8 @@ pub record Share : Type 0 where
   pub status : ℕ
   pub rules : List ℕ
 
--- What a sheet adds: the lines on all that it breaks; or on errors the line of a fault and that of its reason; or there,
--- without memory for these, words that say so.
+-- What a sheet adds: the lines on all that it breaks; or on errors the line of a fault and that of its reason, or
+-- words that say that there was no memory for these.
 abbrev pub IsShare : Inputs → Why → Classes → AnswerForm → List ℕ → Share → Type 0
 IsShare inputs why s form path share =
     ((broken : List BrokenRule) × (text : List ℕ) × TellsAllOf inputs s form path broken text
@@ -134,8 +134,8 @@ pub record IsCutIn (out err : Stream) (said told text : List ℕ) (status : ℕ)
   pub warns : Warns err (told ++ ended (codes "cannot write standard output"))
   pub status_is : status ≡ 4
 
--- What came of the sheets of these paths: each added what it adds, and then came the counts; or the output failed in the
--- lines of one, or in the counts; or there was no memory for the counts, which the errors say.
+-- What came of the sheets of these paths: each added what it adds, and then came the counts; or the output failed in
+-- the lines of one, or in the counts; or there was no memory for the counts, which the errors say.
 pub data AnswersCensus (inputs : Inputs) (why : Why) (s : Classes) (form : AnswerForm) (out err : Stream)
     (paths : List (List ℕ)) (status : ℕ) : Type 0 where
   counted : (shares : List Share) (counts : List ℕ) → AllZip (IsShare inputs why s form) paths shares

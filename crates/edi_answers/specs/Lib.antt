@@ -8,6 +8,7 @@ pub mod Hinted
 pub mod Misuses
 pub mod Notes
 pub mod PairInputs
+pub mod PairRuns
 pub mod Paths
 pub mod Reasons
 pub mod Replies

@@ -1,11 +1,15 @@
 -- The note on the kinds of links that no class has.
-use Rattle.std.specs.Prelude.{◌≡◌, ◌⊎◌, ◌<◌, ◌++◌, ℕ, Bool, List, [], ◌∷◌, Option, IfSome, IsTrue, codes}
+use Rattle.std.specs.Prelude.{◌≡◌, ◌⊎◌, ◌<◌, ◌++◌, ℕ, Bool, List, [], ◌∷◌, Option, Result, IfSome, IsTrue, MatchResult, codes}
 use Rattle.edi_line.specs.LineRules.{BreaksLineRule}
 use Rattle.edi_line.specs.Refusal.{IsUnbroken}
+use Rattle.edi_pairing.specs.UnderFiles.{MatchRun}
+use Rattle.edi_pairing.specs.declared.fault.VerifyRunFault.{VerifyRunFault}
 use Rattle.edi_schema.specs.Roles.{KindCodes}
 use Rattle.edi_schema.specs.declared.by_role.ByRole.{ByRole}
+use Rattle.edi_compare.specs.declared.fault.RunFault.{RunFault}
 use Rattle.edi_explain.specs.KindLines.{NameLacking, lacking_words}
 use Rattle.edi_files.specs.Reasons.{ended}
+use Rattle.edi_outcome.specs.Status.{status_of_fault}
 use Rattle.edi_shown.specs.Shown.{shown_bytes}
 use Rattle.edi_words.specs.declared.words.Request.{Request}
 use Rattle.edi_words.specs.declared.words.Request.TheVariants.{Bundle, Sheet, Pair, Many, Delivery, Manifest, CheckManifest, Explain, Rule, Rules, Changed, Misused, Answered}
@@ -47,6 +51,20 @@ GivesNote inputs kinds path note = (contents : Option (List ℕ)) × Gives input
 -- answer
 abbrev pub HasNoteOf : Inputs → KindCodes → List ℕ → ℕ → List ℕ → List ℕ → Type 0
 HasNoteOf inputs kinds path status old new = GivesNote inputs kinds path new ⊎ ((2 < status) × (new ≡ old))
+
+-- a run that ends so leaves that note in the place: where it has a fault, with the status of that
+abbrev pub LeavesNote : {T : Type 0} → Inputs → KindCodes → List ℕ → List ℕ → List ℕ → Result T RunFault → Type 0
+LeavesNote inputs kinds path old new run = MatchResult run
+    (λ _. GivesNote inputs kinds path new)
+    (λ e. HasNoteOf inputs kinds path (status_of_fault e) old new)
+
+-- The same of a run over five files, where a fault in the last one's lines comes once the rest is loaded.
+abbrev pub LeavesNoteOfFive : {T : Type 0} → Inputs → KindCodes → List ℕ → List ℕ → List ℕ → Result T VerifyRunFault
+    → Type 0
+LeavesNoteOfFive inputs kinds path old new run = MatchResult run
+    (λ _. GivesNote inputs kinds path new)
+    (λ e. MatchRun e (λ f. HasNoteOf inputs kinds path (status_of_fault f) old new)
+    (λ _ _. GivesNote inputs kinds path new))
 
 -- that note, or none where the status says that something could not be read or written, or that memory ran out
 abbrev pub IsNotedAs : Inputs → KindCodes → List ℕ → ℕ → List ℕ → Type 0

@@ -2,11 +2,13 @@
 use Rattle.std.specs.Prelude.{◌≡◌, ◌≤◌, ℕ, List, Option, IfSome, length}
 use Rattle.edi_compare.specs.Runs.{MatchFault, most_bytes}
 use Rattle.edi_compare.specs.declared.fault.RunFault.{RunFault}
+use Rattle.edi_line.specs.FileBytes.{file_bytes}
+use Rattle.edi_line.specs.declared.file.FileBytes.{FileBytes}
 use Rattle.edi_line.specs.declared.device.ByteIn as byte_in
+use Rattle.edi_schema.specs.Classes.{Classes}
 use Rattle.edi_schema.specs.Roles.{KindCodes}
 use Rattle.edi_schema.specs.SchemaRefusal.{IsGoodSchema}
 use Rattle.edi_words.specs.declared.words.PairFiles.{PairFiles}
-use Rattle.edi_answers.specs.declared.pair_inputs.LoadedPair.{LoadedPair}
 use Rattle.edi_answers.specs.Effects.{Inputs}
 use Rattle.edi_answers.specs.SheetRuns.{Gives, HasFailedAt, HoldsTooMuch, IsDeviceOf}
 
@@ -39,8 +41,9 @@ ArePairBytes inputs files scd dic first second =
     × IsReadAt inputs files.first.now first × IsReadAt inputs files.second.now second
 
 -- the schema is that of the two files and the codes, and the sheets are the other two
-abbrev pub IsLoadedPair : KindCodes → LoadedPair → List ℕ → List ℕ → List ℕ → List ℕ → Type 0
-IsLoadedPair kinds pair scd dic a b = IsGoodSchema scd dic kinds pair.schema × (pair.first ≡ a) × (pair.second ≡ b)
+abbrev pub IsLoadedPair : KindCodes → Classes × FileBytes × FileBytes → List ℕ → List ℕ → List ℕ → List ℕ → Type 0
+IsLoadedPair kinds pair scd dic a b =
+    IsGoodSchema scd dic kinds pair.0 × (file_bytes pair.1 ≡ a) × (file_bytes pair.2 ≡ b)
 
 -- the input of this number and path wasn't read: it failed or is too long, or memory ran out
 abbrev pub IsUnreadAt : Inputs → List ℕ → ℕ → RunFault → Type 0

@@ -98,57 +98,17 @@ pub fn compare_or_pair<F: Folder, O: ByteOut, E: ByteOut>(
         (inputs F.Folder F.Reader.ByteIn folder.old) kinds.now files.now.scd.now result note.old.items note.new.items }
 {
     match pairing {
-        Some(path) => pair(alloc, folder, kinds, files, form, path, out, err, note),
-        None => compare(alloc, folder, kinds, files, form, out, err, note),
+        Some(path) => {
+            let paths = [files.scd, files.dic, files.first, files.second, path];
+            let outcome = outcome_of_paired(sheets::pair(alloc, folder, kinds, files, path, note));
+            report::answer(alloc, folder, out, err, form, &outcome, &paths)
+        }
+        None => {
+            let paths = [files.scd, files.dic, files.first, files.second, "-"];
+            let outcome = outcome_of(sheets::compare(alloc, folder, kinds, files, note));
+            report::answer(alloc, folder, out, err, form, &outcome, &paths)
+        }
     }
-}
-
-// Whether two sheets state the same plan.
-fn compare<F: Folder, O: ByteOut, E: ByteOut>(
-    alloc: Global,
-    folder: &F,
-    kinds: &GivenKinds<'_>,
-    files: &PairFiles<'_>,
-    form: AnswerForm,
-    out: &mut O,
-    err: &mut E,
-    note: &mut Vec<u8>,
-) -> u8
-    ensures status { IsPairStatus result }
-    ensures answer { IsCompareStatus
-        (effects F.Folder F.Reader.ByteIn F.Sink.ByteOut F.NewFile.ByteOut folder.now folder.now)
-        (written O.ByteOut out.old out.new) (written E.ByteOut err.old err.new) kinds.now files.now form result }
-    ensures note { HasNoteOf
-        (inputs F.Folder F.Reader.ByteIn folder.now) kinds.now files.now.scd.now result note.old.items note.new.items }
-{
-    let paths = [files.scd, files.dic, files.first, files.second, "-"];
-    let outcome = outcome_of(sheets::compare(alloc, folder, kinds, files, note));
-    report::answer(alloc, folder, out, err, form, &outcome, &paths)
-}
-
-// Whether two sheets state the same plan, and a pairing of them to a path.
-fn pair<F: Folder, O: ByteOut, E: ByteOut>(
-    alloc: Global,
-    folder: &mut F,
-    kinds: &GivenKinds<'_>,
-    files: &PairFiles<'_>,
-    form: AnswerForm,
-    path: &str,
-    out: &mut O,
-    err: &mut E,
-    note: &mut Vec<u8>,
-) -> u8
-    ensures status { IsPairStatus result }
-    ensures answer { IsPairingStatus
-        (effects F.Folder F.Reader.ByteIn F.Sink.ByteOut F.NewFile.ByteOut folder.old folder.new)
-        (written O.ByteOut out.old out.new) (written E.ByteOut err.old err.new) kinds.now files.now form path.now
-        result }
-    ensures note { HasNoteOf
-        (inputs F.Folder F.Reader.ByteIn folder.old) kinds.now files.now.scd.now result note.old.items note.new.items }
-{
-    let paths = [files.scd, files.dic, files.first, files.second, path];
-    let outcome = outcome_of_paired(sheets::pair(alloc, folder, kinds, files, path, note));
-    report::answer(alloc, folder, out, err, form, &outcome, &paths)
 }
 
 /// Says in a form whether a file states a pairing that carries the one plan onto the other, and why it doesn't.

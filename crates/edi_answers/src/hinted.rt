@@ -19,6 +19,15 @@ use std::alloc::{AllocError, Global};
 /// The rule that all ends of links are of one lot and subset.
 const ONE_SUBSET: u16 = 304;
 
+// The path of a refused sheet, and those of its siblings, in a folder.
+#[derive(Drop)]
+struct RefusedSheet<'a, F> {
+    alloc: Global,
+    folder: &'a F,
+    siblings: &'a [&'a str],
+    path: &'a str,
+}
+
 /// The hints behind a fault of the sheet of a path: of a refused sheet those on its file, and where its links point at
 /// records of its siblings, in which of them these are. Siblings are the VEC files of its lot, where that is known.
 pub fn hints_at<F: Folder>(
@@ -32,146 +41,21 @@ pub fn hints_at<F: Folder>(
         (map (λ p. p.now) siblings.now) fault.now path.now lines.items) }
 {
     match fault {
-        RunFault::First(fault) => hints_at_path(alloc, folder, siblings, fault, path),
+        RunFault::First(fault) => {
+            let sheet = RefusedSheet {
+                alloc,
+                folder,
+                siblings,
+                path,
+            };
+            sheet.hints_at_path(fault)
+        }
         RunFault::Memory(_)
         | RunFault::Read { .. }
         | RunFault::TooLong { .. }
         | RunFault::Schema(_)
         | RunFault::Second(_)
         | RunFault::Write(_) => Ok(Vec::new(alloc)),
-    }
-}
-
-// The hints on what is read once more of a path.
-fn hints_at_path<F: Folder>(
-    alloc: Global,
-    folder: &F,
-    siblings: &[&str],
-    fault: &Fault,
-    path: &str,
-) -> Result<Vec<u8>, AllocError>
-    ensures { IfOk result (λ lines. AreHintsAtPath (inputs F.Folder F.Reader.ByteIn folder.now)
-        (map (λ p. p.now) siblings.now) fault.now path.now lines.items) }
-{
-    match read_again(alloc, folder, path)? {
-        Some(bytes) => sheet_hints(alloc, folder, siblings, fault, path, &bytes),
-        None => Ok(Vec::new(alloc)),
-    }
-}
-
-// The hints on the file of a refused sheet, and on records of its siblings.
-fn sheet_hints<F: Folder>(
-    alloc: Global,
-    folder: &F,
-    siblings: &[&str],
-    fault: &Fault,
-    path: &str,
-    bytes: &[u8],
-) -> Result<Vec<u8>, AllocError>
-    ensures { IfOk result (λ lines. AreSheetHints (inputs F.Folder F.Reader.ByteIn folder.now)
-        (map (λ p. p.now) siblings.now) fault.now path.now bytes.now lines.items) }
-{
-    let name = path.as_bytes();
-    let mut lines = hints_on_refused(alloc, &NamedFile { name, bytes })?;
-    let elsewhere = hints_elsewhere(alloc, folder, siblings, fault, path, bytes)?;
-    lines.extend_from_slice(&elsewhere)?;
-    Ok(lines)
-}
-
-// Where a sheet is refused by 304, the lines on records of its siblings.
-fn hints_elsewhere<F: Folder>(
-    alloc: Global,
-    folder: &F,
-    siblings: &[&str],
-    fault: &Fault,
-    path: &str,
-    bytes: &[u8],
-) -> Result<Vec<u8>, AllocError>
-    ensures { IfOk result (λ lines. AreHintsElsewhere (inputs F.Folder F.Reader.ByteIn folder.now)
-        (map (λ p. p.now) siblings.now) fault.now path.now bytes.now lines.items) }
-{
-    match fault {
-        Fault::Entry { rule, .. } if *rule == ONE_SUBSET => {
-            elsewhere_lines(alloc, folder, siblings, path, bytes)
-        }
-        Fault::Entry { .. } | Fault::Line { .. } | Fault::Memory(_) => Ok(Vec::new(alloc)),
-    }
-}
-
-// Where a sheet has ends of two lots or subsets, the lines on the records that the first ends of the two name.
-fn elsewhere_lines<F: Folder>(
-    alloc: Global,
-    folder: &F,
-    siblings: &[&str],
-    path: &str,
-    bytes: &[u8],
-) -> Result<Vec<u8>, AllocError>
-    ensures { IfOk result (λ lines. AreElsewhereLines (inputs F.Folder F.Reader.ByteIn folder.now)
-        (map (λ p. p.now) siblings.now) path.now bytes.now lines.items) }
-{
-    let Some(ends) = stray_ends(alloc, bytes)? else {
-        return Ok(Vec::new(alloc));
-    };
-    let mut lines = line_of_end(alloc, folder, siblings, path, &ends.stray)?;
-    let of_home = line_of_end(alloc, folder, siblings, path, &ends.home)?;
-    lines.extend_from_slice(&of_home)?;
-    Ok(lines)
-}
-
-// The line on the record that an end names.
-fn line_of_end<F: Folder>(
-    alloc: Global,
-    folder: &F,
-    siblings: &[&str],
-    path: &str,
-    end: &[u8],
-) -> Result<Vec<u8>, AllocError>
-    ensures { IfOk result (λ line. (p : PointerText) → IsPointer end.now p → IsElsewhereLine
-        (inputs F.Folder F.Reader.ByteIn folder.now) path.now p (map (λ p. p.now) siblings.now) line.items) }
-{
-    match Pointer::read(end) {
-        Some(pointer) => elsewhere_line(alloc, folder, siblings, path, pointer),
-        None => Ok(Vec::new(alloc)),
-    }
-}
-
-// The line on the first of these sheets that has the record that a pointer names, if one does.
-fn elsewhere_line<F: Folder>(
-    alloc: Global,
-    folder: &F,
-    siblings: &[&str],
-    path: &str,
-    pointer: Pointer<'_>,
-) -> Result<Vec<u8>, AllocError>
-    ensures { IfOk result (λ line. IsElsewhereLine (inputs F.Folder F.Reader.ByteIn folder.now)
-        path.now (shown pointer.entry) (map (λ p. p.now) siblings.now) line.items) }
-{
-    for other in siblings {
-        if has_record(alloc, folder, path, pointer, other)? {
-            return elsewhere_hint(alloc, path.as_bytes(), pointer, other.as_bytes());
-        }
-    }
-    Ok(Vec::new(alloc))
-}
-
-// Whether the sheet of another path has the record that a pointer names.
-fn has_record<F: Folder>(
-    alloc: Global,
-    folder: &F,
-    path: &str,
-    pointer: Pointer<'_>,
-    other: &str,
-) -> Result<bool, AllocError>
-    ensures { IfOk result (λ t. MatchBool t
-        (HasRecord (inputs F.Folder F.Reader.ByteIn folder.now) path.now (shown pointer.entry) other.now)
-        (LacksRecord (inputs F.Folder F.Reader.ByteIn folder.now) path.now (shown pointer.entry) other.now)) }
-{
-    if other == path {
-        return Ok(false);
-    }
-    match read_again(alloc, folder, other)? {
-        Some(bytes) => has_named(alloc, &bytes, pointer),
-        None => Ok(false),
     }
 }
 
@@ -203,7 +87,8 @@ fn read_file<F: Folder>(
 ) -> Result<Option<Vec<u8>>, AllocError>
     ensures { IfOk result (λ found. MatchOption found
         (IsUnreadable (inputs F.Folder F.Reader.ByteIn folder.now) path.now)
-        (λ bytes. OfWholeInput (inputs F.Folder F.Reader.ByteIn folder.now) path.now (λ contents. bytes.items ≡ contents))) }
+        (λ bytes. OfWholeInput (inputs F.Folder F.Reader.ByteIn folder.now) path.now
+        (λ contents. bytes.items ≡ contents))) }
 {
     match read_whole(alloc, folder, path) {
         Ok(bytes) => Ok(Some(bytes)),
@@ -226,5 +111,97 @@ fn but_memory(fault: &RunFault) -> Result<(), AllocError>
         | RunFault::First(_)
         | RunFault::Second(_)
         | RunFault::Write(_) => Ok(()),
+    }
+}
+
+impl<'a, F: Folder> RefusedSheet<'a, F> {
+    // The hints on what is read once more of a path.
+    fn hints_at_path(&self, fault: &Fault) -> Result<Vec<u8>, AllocError>
+        ensures { IfOk result (λ lines. AreHintsAtPath (inputs F.Folder F.Reader.ByteIn self.now.folder.now)
+            (map (λ p. p.now) self.now.siblings.now) fault.now self.now.path.now lines.items) }
+    {
+        match read_again(self.alloc, self.folder, self.path)? {
+            Some(bytes) => self.sheet_hints(fault, &bytes),
+            None => Ok(Vec::new(self.alloc)),
+        }
+    }
+
+    // The hints on the file of a refused sheet, and on records of its siblings.
+    fn sheet_hints(&self, fault: &Fault, bytes: &[u8]) -> Result<Vec<u8>, AllocError>
+        ensures { IfOk result (λ lines. AreSheetHints (inputs F.Folder F.Reader.ByteIn self.now.folder.now)
+            (map (λ p. p.now) self.now.siblings.now) fault.now self.now.path.now bytes.now lines.items) }
+    {
+        let name = self.path.as_bytes();
+        let mut lines = hints_on_refused(self.alloc, &NamedFile { name, bytes })?;
+        let elsewhere = self.hints_elsewhere(fault, bytes)?;
+        lines.extend_from_slice(&elsewhere)?;
+        Ok(lines)
+    }
+
+    // Where a sheet is refused by 304, the lines on records of its siblings.
+    fn hints_elsewhere(&self, fault: &Fault, bytes: &[u8]) -> Result<Vec<u8>, AllocError>
+        ensures { IfOk result (λ lines. AreHintsElsewhere (inputs F.Folder F.Reader.ByteIn self.now.folder.now)
+            (map (λ p. p.now) self.now.siblings.now) fault.now self.now.path.now bytes.now lines.items) }
+    {
+        match fault {
+            Fault::Entry { rule, .. } if *rule == ONE_SUBSET => self.elsewhere_lines(bytes),
+            Fault::Entry { .. } | Fault::Line { .. } | Fault::Memory(_) => Ok(Vec::new(self.alloc)),
+        }
+    }
+
+    // Where a sheet has ends of two lots or subsets, the lines on the records that the first ends of the two name.
+    fn elsewhere_lines(&self, bytes: &[u8]) -> Result<Vec<u8>, AllocError>
+        ensures { IfOk result (λ lines. AreElsewhereLines (inputs F.Folder F.Reader.ByteIn self.now.folder.now)
+            (map (λ p. p.now) self.now.siblings.now) self.now.path.now bytes.now lines.items) }
+    {
+        let Some(ends) = stray_ends(self.alloc, bytes)? else {
+            return Ok(Vec::new(self.alloc));
+        };
+        let mut lines = self.line_of_end(&ends.stray)?;
+        let of_home = self.line_of_end(&ends.home)?;
+        lines.extend_from_slice(&of_home)?;
+        Ok(lines)
+    }
+
+    // The line on the record that an end names.
+    fn line_of_end(&self, end: &[u8]) -> Result<Vec<u8>, AllocError>
+        ensures { IfOk result (λ line. (p : PointerText) → IsPointer end.now p
+            → IsElsewhereLine (inputs F.Folder F.Reader.ByteIn self.now.folder.now) self.now.path.now p
+            (map (λ p. p.now) self.now.siblings.now) line.items) }
+    {
+        match Pointer::read(end) {
+            Some(pointer) => self.elsewhere_line(pointer),
+            None => Ok(Vec::new(self.alloc)),
+        }
+    }
+
+    // The line on the first of these sheets that has the record that a pointer names, if one does.
+    fn elsewhere_line(&self, pointer: Pointer<'_>) -> Result<Vec<u8>, AllocError>
+        ensures { IfOk result (λ line. IsElsewhereLine (inputs F.Folder F.Reader.ByteIn self.now.folder.now)
+            self.now.path.now (shown pointer.entry) (map (λ p. p.now) self.now.siblings.now) line.items) }
+    {
+        for other in self.siblings {
+            if self.has_record(pointer, other)? {
+                return elsewhere_hint(self.alloc, self.path.as_bytes(), pointer, other.as_bytes());
+            }
+        }
+        Ok(Vec::new(self.alloc))
+    }
+
+    // Whether the sheet of another path has the record that a pointer names.
+    fn has_record(&self, pointer: Pointer<'_>, other: &str) -> Result<bool, AllocError>
+        ensures { IfOk result (λ t. MatchBool t
+            (HasRecord (inputs F.Folder F.Reader.ByteIn self.now.folder.now) self.now.path.now (shown pointer.entry)
+            other.now)
+            (LacksRecord (inputs F.Folder F.Reader.ByteIn self.now.folder.now) self.now.path.now (shown pointer.entry)
+            other.now)) }
+    {
+        if other == self.path {
+            return Ok(false);
+        }
+        match read_again(self.alloc, self.folder, other)? {
+            Some(bytes) => has_named(self.alloc, &bytes, pointer),
+            None => Ok(false),
+        }
     }
 }

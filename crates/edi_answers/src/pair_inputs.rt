@@ -4,26 +4,22 @@ ghost use Rattle.edi_compare.specs.Runs.{MatchFault, RefusesSchema};
 ghost use Rattle.edi_outcome.specs.Status.{status_of_fault};
 ghost use Rattle.edi_outcome.specs.Words.{FaultHasNames};
 ghost use Rattle.edi_answers.specs.Effects.{inputs};
-ghost use Rattle.edi_answers.specs.Notes.{GivesNote, HasNoteOf};
-ghost use Rattle.edi_answers.specs.SheetRuns.{FirstOfFourMissing, OfPair, PairFileFault, VerifyFileFault, pair_path_at};
+ghost use Rattle.edi_answers.specs.Notes.{GivesNote, LeavesNote};
+ghost use Rattle.edi_answers.specs.PairRuns.{IsPairRun};
+ghost use Rattle.edi_answers.specs.SheetRuns.{FirstOfFourMissing, OfPair, VerifyFileFault, pair_path_at};
 ghost use Rattle.edi_answers.specs.PairInputs.{ArePairBytes, ArePairInputs, ArePairReaders, AreUnread, IsLoadedPair, IsOpenedAt, IsReadAt, IsUnreadAt};
 
 use crate::classes::read_classes;
 use crate::sheets::open_input;
 use edi_compare::{RunFault, load_or_fault, read_input};
 use edi_files::Folder;
-use edi_line::{Gathering, Pieces};
+use edi_line::{FileBytes, Gathering, Pieces};
 use edi_schema::Schema;
 use edi_words::{GivenKinds, PairFiles};
 use std::alloc::Global;
 
-/// Two sheets that were read, in pieces, and the schema that they stand under.
-#[derive(Drop)]
-pub struct LoadedPair {
-    pub schema: Schema,
-    pub first: Pieces,
-    pub second: Pieces,
-}
+/// A schema, and two sheets that were read and stand under it.
+pub type LoadedPair = (Schema, FileBytes<'static>, FileBytes<'static>);
 
 // What was read of the file of classes, and the other three inputs, which are open.
 #[derive(Drop)]
@@ -61,16 +57,8 @@ pub fn load_pair<F: Folder>(
     files: &PairFiles<'_>,
     note: &mut Vec<u8>,
 ) -> Result<LoadedPair, RunFault>
-    ensures ok { IfOk result (λ pair. OfPair (inputs F.Folder F.Reader.ByteIn folder.now) files.now
-        (IsLoadedPair kinds.now pair)) }
-    ensures err { IfErr result
-        (PairFileFault (inputs F.Folder F.Reader.ByteIn folder.now) kinds.now files.now (λ _. ⊥)) }
-    ensures names { IfErr result (λ e. FaultHasNames e 5) }
-    ensures noted { IfOk result (λ _.
-        GivesNote (inputs F.Folder F.Reader.ByteIn folder.now) kinds.now files.now.scd.now note.new.items) }
-    ensures unnoted { IfErr result (λ e.
-        HasNoteOf (inputs F.Folder F.Reader.ByteIn folder.now) kinds.now files.now.scd.now (status_of_fault e)
-        note.old.items note.new.items) }
+    ensures { IsPairRun (inputs F.Folder F.Reader.ByteIn folder.now) kinds.now files.now note.old.items note.new.items
+        (IsLoadedPair kinds.now) result }
 {
     let readers = open_files(folder, files)?;
     let pair = with_classes(alloc, folder, kinds, files, readers, note)?;
@@ -95,11 +83,8 @@ pub fn load_pair_and_file<F: Folder>(
     ensures err { IfErr result
         (VerifyFileFault (inputs F.Folder F.Reader.ByteIn folder.now) kinds.now files.now pairing.now) }
     ensures names { IfErr result (λ e. FaultHasNames e 6) }
-    ensures noted { IfOk result (λ _.
-        GivesNote (inputs F.Folder F.Reader.ByteIn folder.now) kinds.now files.now.scd.now note.new.items) }
-    ensures unnoted { IfErr result (λ e.
-        HasNoteOf (inputs F.Folder F.Reader.ByteIn folder.now) kinds.now files.now.scd.now (status_of_fault e)
-        note.old.items note.new.items) }
+    ensures note { LeavesNote (inputs F.Folder F.Reader.ByteIn folder.now) kinds.now files.now.scd.now note.old.items
+        note.new.items result }
 {
     let readers = open_files(folder, files)?;
     let mut file = open_input(folder, pairing, 5)?;
@@ -207,11 +192,9 @@ fn load(alloc: Global, kinds: &GivenKinds<'_>, bytes: PairBytes) -> Result<Loade
         (RefusesSchema kinds.now bytes.classes.items bytes.dic.items) (λ _. ⊥) (λ _. ⊥) (λ _. ⊥)) }
 {
     let schema = load_or_fault(alloc, kinds.kinds(), &bytes.classes, &bytes.dic)?;
-    Ok(LoadedPair {
-        schema,
-        first: bytes.first,
-        second: bytes.second,
-    })
+    let first = FileBytes::InPieces(bytes.first);
+    let second = FileBytes::InPieces(bytes.second);
+    Ok((schema, first, second))
 }
 
 // All bytes of the input that was opened for a path: in a list, or in pieces of which each is let go when its lines are

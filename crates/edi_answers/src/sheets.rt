@@ -5,18 +5,18 @@ ghost use Rattle.edi_compare.specs.Bundle.{OfParts};
 ghost use Rattle.edi_compare.specs.Runs.{BeforeWriting, IsSheetUnder, IsVerdictOf, WritesAll, WritesFirst};
 ghost use Rattle.edi_compare.specs.declared.pairing.Verdict.TheVariants.{Different};
 ghost use Rattle.edi_pairing.specs.UnderFiles.{IsComparedUnder, IsPairingFileOf, IsVerifiedUnder, MatchRun, RefusesFile};
-ghost use Rattle.edi_answers.specs.Notes.{GivesNote, HasNoteOf};
+ghost use Rattle.edi_answers.specs.Notes.{LeavesNote, LeavesNoteOfFive};
+ghost use Rattle.edi_answers.specs.PairRuns.{IsPairRun};
 ghost use Rattle.edi_outcome.specs.Words.{FaultHasNames};
-ghost use Rattle.edi_outcome.specs.Status.{status_of_fault};
 ghost use Rattle.edi_words.specs.Requests.{usual_kinds};
 ghost use Rattle.edi_answers.specs.Effects.{effects, inputs};
-ghost use Rattle.edi_answers.specs.SheetRuns.{FileFault, Gives, IsApart, IsDeviceOf, IsMissing, IsNoPairInput, IsPairInput, IsPairPut, IsPairReplaced, Meets, OfFiles, OfFive, OfPair, PairFileFault, PutPairFault, StandardFault, VerifyFileFault};
+ghost use Rattle.edi_answers.specs.SheetRuns.{FileFault, Gives, IsApart, IsDeviceOf, IsMissing, IsNoPairInput, IsPairInput, IsPairPut, IsPairReplaced, Meets, OfFiles, OfFive, OfPair, PutPairFault, StandardFault, VerifyFileFault};
 
 use crate::classes::{Kept, read_classes};
 use crate::pair_inputs::{load_pair, load_pair_and_file};
 use edi_compare::{RunFault, Verdict, compare_from, run_bundle, run_check};
 use edi_files::{Folder, output};
-use edi_line::{ByteOut, FileBytes};
+use edi_line::ByteOut;
 use edi_pairing::{Compared, Verified, VerifyRunFault};
 use edi_schema::Kinds;
 use edi_words::{GivenKinds, PairFiles, SheetFiles, is_standard};
@@ -50,11 +50,8 @@ pub fn check<F: Folder>(
     ensures ok { OnOk result (OfFiles (inputs F.Folder F.Reader.ByteIn folder.now) files.now (IsSheetUnder kinds.now)) }
     ensures err { IfErr result (FileFault (inputs F.Folder F.Reader.ByteIn folder.now) kinds.now files.now (λ _. ⊥)) }
     ensures names { IfErr result (λ e. FaultHasNames e 4) }
-    ensures noted { OnOk result
-        (GivesNote (inputs F.Folder F.Reader.ByteIn folder.now) kinds.now files.now.scd.now note.new.items) }
-    ensures unnoted { IfErr result (λ e.
-        HasNoteOf (inputs F.Folder F.Reader.ByteIn folder.now) kinds.now files.now.scd.now (status_of_fault e)
-        note.old.items note.new.items) }
+    ensures note { LeavesNote (inputs F.Folder F.Reader.ByteIn folder.now) kinds.now files.now.scd.now note.old.items
+        note.new.items result }
 {
     let mut scd = open_input(folder, files.scd, 1)?;
     let mut dic = open_input(folder, files.dic, 2)?;
@@ -72,21 +69,11 @@ pub fn compare<F: Folder>(
     files: &PairFiles<'_>,
     note: &mut Vec<u8>,
 ) -> Result<Verdict, RunFault>
-    ensures ok { IfOk result (λ verdict. OfPair (inputs F.Folder F.Reader.ByteIn folder.now) files.now
-        (λ s d a b. IsVerdictOf kinds.now s d a b verdict)) }
-    ensures err { IfErr result
-        (PairFileFault (inputs F.Folder F.Reader.ByteIn folder.now) kinds.now files.now (λ _. ⊥)) }
-    ensures names { IfErr result (λ e. FaultHasNames e 5) }
-    ensures noted { IfOk result (λ _.
-        GivesNote (inputs F.Folder F.Reader.ByteIn folder.now) kinds.now files.now.scd.now note.new.items) }
-    ensures unnoted { IfErr result (λ e.
-        HasNoteOf (inputs F.Folder F.Reader.ByteIn folder.now) kinds.now files.now.scd.now (status_of_fault e)
-        note.old.items note.new.items) }
+    ensures { IsPairRun (inputs F.Folder F.Reader.ByteIn folder.now) kinds.now files.now note.old.items note.new.items
+        (λ verdict s d a b. IsVerdictOf kinds.now s d a b verdict) result }
 {
-    let pair = load_pair(alloc, folder, kinds, files, note)?;
-    let first = FileBytes::InPieces(pair.first);
-    let second = FileBytes::InPieces(pair.second);
-    let verdict = compare_from(alloc, &pair.schema, first, second)?;
+    let (schema, first, second) = load_pair(alloc, folder, kinds, files, note)?;
+    let verdict = compare_from(alloc, &schema, first, second)?;
     Ok(verdict)
 }
 
@@ -114,11 +101,8 @@ pub fn pair<F: Folder>(
         (effects F.Folder F.Reader.ByteIn F.Sink.ByteOut F.NewFile.ByteOut folder.old folder.new)
         (IsPairingFileOf kinds.now) files.now out.now }
     ensures names { IfErr result (λ e. FaultHasNames e 5) }
-    ensures noted { IfOk result (λ _.
-        GivesNote (inputs F.Folder F.Reader.ByteIn folder.old) kinds.now files.now.scd.now note.new.items) }
-    ensures unnoted { IfErr result (λ e.
-        HasNoteOf (inputs F.Folder F.Reader.ByteIn folder.old) kinds.now files.now.scd.now (status_of_fault e)
-        note.old.items note.new.items) }
+    ensures note { LeavesNote (inputs F.Folder F.Reader.ByteIn folder.old) kinds.now files.now.scd.now note.old.items
+        note.new.items result }
 {
     if is_pair_input(folder, files, out) {
         return Err(RunFault::Write(Written { count: 0 }));
@@ -149,17 +133,13 @@ pub fn verify<F: Folder>(
         files.now pairing.now) (λ at why. OfFive (inputs F.Folder F.Reader.ByteIn folder.now) files.now pairing.now
         (λ s d a b f. RefusesFile kinds.now s d a b f at why))) }
     ensures names { IfErr result (λ e. MatchRun e (λ f. FaultHasNames f 6) (λ _ _. ⊤)) }
-    ensures noted { IfOk result (λ _.
-        GivesNote (inputs F.Folder F.Reader.ByteIn folder.now) kinds.now files.now.scd.now note.new.items) }
-    ensures unnoted { IfErr result (λ e. MatchRun e
-        (λ f. HasNoteOf (inputs F.Folder F.Reader.ByteIn folder.now) kinds.now files.now.scd.now (status_of_fault f)
-        note.old.items note.new.items)
-        (λ _ _. GivesNote (inputs F.Folder F.Reader.ByteIn folder.now) kinds.now files.now.scd.now note.new.items)) }
+    ensures note { LeavesNoteOfFive (inputs F.Folder F.Reader.ByteIn folder.now) kinds.now files.now.scd.now
+        note.old.items note.new.items result }
 {
-    let (pair, file) = load_pair_and_file(alloc, folder, kinds, files, pairing, note)?;
-    let first = FileBytes::InPieces(pair.first);
-    let second = FileBytes::InPieces(pair.second);
-    let answer = edi_pairing::verify(alloc, &pair.schema, first, second, &file)?;
+    let ((schema, first, second), file) = load_pair_and_file(
+        alloc, folder, kinds, files, pairing, note,
+    )?;
+    let answer = edi_pairing::verify(alloc, &schema, first, second, &file)?;
     Ok(answer)
 }
 
@@ -171,21 +151,11 @@ fn compare_to_file<F: Folder>(
     files: &PairFiles<'_>,
     note: &mut Vec<u8>,
 ) -> Result<Compared, RunFault>
-    ensures ok { IfOk result (λ compared. OfPair (inputs F.Folder F.Reader.ByteIn folder.now) files.now
-        (λ s d a b. IsComparedUnder kinds.now s d a b compared)) }
-    ensures err { IfErr result
-        (PairFileFault (inputs F.Folder F.Reader.ByteIn folder.now) kinds.now files.now (λ _. ⊥)) }
-    ensures names { IfErr result (λ e. FaultHasNames e 5) }
-    ensures noted { IfOk result (λ _.
-        GivesNote (inputs F.Folder F.Reader.ByteIn folder.now) kinds.now files.now.scd.now note.new.items) }
-    ensures unnoted { IfErr result (λ e.
-        HasNoteOf (inputs F.Folder F.Reader.ByteIn folder.now) kinds.now files.now.scd.now (status_of_fault e)
-        note.old.items note.new.items) }
+    ensures { IsPairRun (inputs F.Folder F.Reader.ByteIn folder.now) kinds.now files.now note.old.items note.new.items
+        (λ compared s d a b. IsComparedUnder kinds.now s d a b compared) result }
 {
-    let pair = load_pair(alloc, folder, kinds, files, note)?;
-    let first = FileBytes::InPieces(pair.first);
-    let second = FileBytes::InPieces(pair.second);
-    let compared = edi_pairing::compare_to_file(alloc, &pair.schema, first, second)?;
+    let (schema, first, second) = load_pair(alloc, folder, kinds, files, note)?;
+    let compared = edi_pairing::compare_to_file(alloc, &schema, first, second)?;
     Ok(compared)
 }
 

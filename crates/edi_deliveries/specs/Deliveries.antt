@@ -191,8 +191,8 @@ OpensNone run listings path err s =
 
 -- ---- what is replied
 
--- in how many VEC files of a lot a record is looked for at which a link of another points: few, so that the time of a lot
--- grows as its files do
+-- in how many VEC files of a lot a record is looked for at which a link of another points: few, so that a lot takes
+-- time as it has files
 abbrev pub most_siblings : ℕ
 most_siblings = 64
 
@@ -200,8 +200,8 @@ abbrev pub siblings_of : ManyFiles → List (List ℕ)
 siblings_of files = map (λ p. p.now) (take most_siblings files.sheets.items)
 
 module _ (run : Effects) (kinds : KindCodes) where
-  -- to the VEC files of a lot that are there, as by `hash`, with the first of them as siblings; where its classes or its
-  -- dictionary are missing, nothing
+  -- to the VEC files of a lot that are there, as by `hash`, with the first of them as siblings; nothing where its
+  -- classes or its dictionary are missing
   abbrev pub IsLotHashed : List ℕ → List (List ℕ) → Lot → Reply
   IsLotHashed before names lot out err s =
       ((files : ManyFiles) × AreLotFiles before names lot files

@@ -9,6 +9,8 @@ ghost use Rattle.edi_outcome.specs.Words.{FaultHasNames};
 ghost use Rattle.edi_manifest.specs.ManifestText.{manifest_text};
 ghost use Rattle.edi_deliveries.specs.Deliveries.{Opens, listings};
 ghost use Rattle.edi_deliveries.specs.Manifests.{IfAllFound, IsFileIn, IsManifestPut, IsManifestReplaced, IsManifestStatus, IsManifestThere, IsNoFileIn, IsPrinted, IsStored, IsUnput, paths_in};
+ghost use Rattle.edi_deliveries.specs.Found.{AreLotsFound};
+ghost use Rattle.edi_deliveries.specs.inner.Finding.{AddsFound};
 ghost use Rattle.edi_deliveries.specs.inner.Opening.{opened_of};
 
 use crate::found::FolderNames;
@@ -158,6 +160,30 @@ fn put_lines<F: Folder>(
 }
 
 impl<'a, 'n> ManifestRequest<'a, 'n> {
+    // Adds the lines of the delivery to others, and gives the status, as `find_lines` does.
+    fn find<F: Folder, E: ByteOut + Progress>(
+        &self,
+        folder: &F,
+        lines: &mut Vec<ManifestLine>,
+        err: &mut E,
+    ) -> u8
+        requires { self.now.names.now ≡ (opened_of self.now.opened.now).names }
+        ensures status { IsSheetStatus result }
+        ensures found { AddsFound (AreLotsFound (inputs F.Folder F.Reader.ByteIn folder.now) (F.why folder.now)
+            self.now.kinds.now (opened_of self.now.opened.now))
+            lines.old.items lines.new.items (written E.ByteOut err.old err.new) result }
+        ensures stays { IsTrue (E.has_failed err.old) → IsTrue (E.has_failed err.new) }
+    {
+        let ManifestRequest {
+            alloc,
+            kinds,
+            opened,
+            names,
+            ..
+        } = self;
+        find_lines(*alloc, folder, kinds, opened, names, lines, err)
+    }
+
     // Sends the manifest to the output.
     fn send<F: Folder, O: ByteOut, E: ByteOut + Progress>(
         &self,
@@ -172,15 +198,7 @@ impl<'a, 'n> ManifestRequest<'a, 'n> {
             (Prints (written O.ByteOut out.old out.new) []) (written E.ByteOut err.old err.new) result }
     {
         let mut lines = Vec::new(self.alloc);
-        let status = find_lines(
-            self.alloc,
-            folder,
-            self.kinds,
-            self.opened,
-            self.names,
-            &mut lines,
-            err,
-        );
+        let status = self.find(folder, &mut lines, err);
         if status == 0 {
             print(self.alloc, &lines, out, err)
         } else {
@@ -256,15 +274,7 @@ impl<'a, 'n> ManifestRequest<'a, 'n> {
             (listings F.Listing folder.old) self.now.kinds.now self.now.path.now self.now.file.now }
     {
         let mut lines = Vec::new(self.alloc);
-        let status = find_lines(
-            self.alloc,
-            folder,
-            self.kinds,
-            self.opened,
-            self.names,
-            &mut lines,
-            err,
-        );
+        let status = self.find(folder, &mut lines, err);
         if status == 0 {
             self.store(folder, &lines, err)
         } else {

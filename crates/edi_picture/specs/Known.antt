@@ -2,6 +2,7 @@
 use Rattle.std.specs.Prelude.{ℕ, pos, List, [], ◌∷◌, None, codes, false}
 use Rattle.edi_record.specs.declared.name.Name.{Name}
 use Rattle.edi_record.specs.declared.record.Kind.{Kind}
+use Rattle.edi_record.specs.declared.record.Kind.TheVariants.{Pno}
 use Rattle.edi_record.specs.declared.record.Point.{Point}
 use Rattle.edi_schema.specs.Classes.{Classes}
 use Rattle.edi_schema.specs.declared.class.Class.{Class}
@@ -46,6 +47,10 @@ one_record kind points mark = record {
   tints = [];
   labels = [];
 }
+
+-- a sheet of one node, so far across
+abbrev pub lone_node : ℕ → Mark → Sheet
+lone_node x mark = one_record Pno (known_point x 20000000 ∷ []) mark
 
 -- a frame from 0.5 to 3, and from 0 to 22.5
 abbrev pub frame : Extent

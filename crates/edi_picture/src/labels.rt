@@ -5,7 +5,7 @@ ghost use Rattle.std.specs.List.{All, flat_map};
 ghost use Rattle.edi_plan.specs.Plans.{IsPlace, record_at};
 ghost use Rattle.edi_picture.specs.inner.Rounds.{AreRounds};
 ghost use Rattle.edi_picture.specs.Faces.{arcs_round};
-ghost use Rattle.edi_picture.specs.Labels.{has_label, label_amid, label_element, label_place, label_text, labels_of, middle, middle_across, middle_down, midway, page_across, page_down};
+ghost use Rattle.edi_picture.specs.Labels.{has_label, label_amid, label_place, label_text, labels_of, middle, middle_across, middle_down, midway, page_across, page_down};
 
 use crate::frame::{distance_between, pixel};
 use crate::mark::Mark;
@@ -97,26 +97,7 @@ fn push_label_place(
     push_number(text, page_down(alloc, frame, top, points)?)
 }
 
-/// Appends words that stand there.
-fn push_label_element(
-    alloc: Global,
-    text: &mut Vec<u8>,
-    frame: &Extent,
-    top: u64,
-    points: &[Point],
-    label: &[u8],
-) -> Result<(), AllocError>
-    requires { top ≤ 1000 }
-    ensures { OnOk result (text.new.items
-        ≡ text.old.items ++ label_element frame.now top points.now label.now) }
-{
-    push_label_place(alloc, text, frame, top, points)?;
-    put(text, b"' dy='0.35em'>")?;
-    push_escaped_text(text, label)?;
-    put(text, b"</text>\n")
-}
-
-/// Appends them, if there are any points.
+/// Appends words that stand there, if there are any points.
 fn push_label_amid(
     alloc: Global,
     text: &mut Vec<u8>,
@@ -131,7 +112,12 @@ fn push_label_amid(
 {
     match points {
         [] => Ok(()),
-        [_, ..] => push_label_element(alloc, text, frame, top, points, label),
+        [_, ..] => {
+            push_label_place(alloc, text, frame, top, points)?;
+            put(text, b"' dy='0.35em'>")?;
+            push_escaped_text(text, label)?;
+            put(text, b"</text>\n")
+        }
     }
 }
 

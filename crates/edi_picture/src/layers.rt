@@ -5,7 +5,7 @@ ghost use Rattle.std.specs.List.{flat_map};
 ghost use Rattle.edi_picture.specs.Elements.{drawn_records};
 ghost use Rattle.edi_picture.specs.Faces.{faces_of};
 ghost use Rattle.edi_picture.specs.Labels.{labels_of};
-ghost use Rattle.edi_picture.specs.Pictures.{all_arcs, all_nodes, arcs_begin, arcs_text, dashes, faces_text, labels_text, layers, nodes_begin, nodes_text, plan_text, rim_text};
+ghost use Rattle.edi_picture.specs.Pictures.{arcs_begin, arcs_text, dashes, faces_text, labels_text, layers, nodes_begin, nodes_text, plan_text, rim_text};
 ghost use Rattle.edi_picture.specs.Sheets.{AllHaveClasses};
 ghost use Rattle.edi_picture.specs.declared.mark.Ink.TheVariants.{Old};
 
@@ -156,37 +156,8 @@ fn push_node_layer(
     put(text, b"</g>\n")
 }
 
-/// Appends the arcs: those that both sheets have below those of the second, and these below those of the first.
-fn push_arc_layers(
-    canvas: &Canvas<'_>,
-    text: &mut Vec<u8>,
-    sheets: &[Shown<'_>],
-) -> Result<(), AllocError>
-    requires { AllHaveClasses canvas.now.schema.now sheets.now }
-    ensures { OnOk result (text.new.items
-        ≡ text.old.items ++ all_arcs canvas.now.schema.now canvas.now.frame sheets.now) }
-{
-    push_arc_layer(canvas, text, sheets, Ink::Grey)?;
-    push_arc_layer(canvas, text, sheets, Ink::New)?;
-    push_arc_layer(canvas, text, sheets, Ink::Old)
-}
-
-/// Appends the nodes: those of the second sheet above the wider ones of the first.
-fn push_node_layers(
-    canvas: &Canvas<'_>,
-    text: &mut Vec<u8>,
-    sheets: &[Shown<'_>],
-) -> Result<(), AllocError>
-    requires { AllHaveClasses canvas.now.schema.now sheets.now }
-    ensures { OnOk result (text.new.items
-        ≡ text.old.items ++ all_nodes canvas.now.schema.now canvas.now.frame sheets.now) }
-{
-    push_node_layer(canvas, text, sheets, Ink::Grey)?;
-    push_node_layer(canvas, text, sheets, Ink::Old)?;
-    push_node_layer(canvas, text, sheets, Ink::New)
-}
-
-/// Appends all of these.
+/// Appends all of these. Arcs that both sheets have lie below those of the second, and these below those of the first;
+/// nodes of the second lie above the wider ones of the first.
 fn push_layers(
     alloc: Global,
     canvas: &Canvas<'_>,
@@ -198,8 +169,12 @@ fn push_layers(
         ≡ text.old.items ++ layers canvas.now.schema.now canvas.now.frame sheets.now) }
 {
     push_face_layer(alloc, canvas, text, sheets)?;
-    push_arc_layers(canvas, text, sheets)?;
-    push_node_layers(canvas, text, sheets)
+    push_arc_layer(canvas, text, sheets, Ink::Grey)?;
+    push_arc_layer(canvas, text, sheets, Ink::New)?;
+    push_arc_layer(canvas, text, sheets, Ink::Old)?;
+    push_node_layer(canvas, text, sheets, Ink::Grey)?;
+    push_node_layer(canvas, text, sheets, Ink::Old)?;
+    push_node_layer(canvas, text, sheets, Ink::New)
 }
 
 /// Appends the plan, so far below the top.

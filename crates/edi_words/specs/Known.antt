@@ -1,7 +1,7 @@
 -- Known words.
-use Rattle.std.specs.Prelude.{◌==◌, ℕ, List, [], ◌∷◌, Option, map, option_map, codes}
+use Rattle.std.specs.Prelude.{◌==◌, ℕ, Bool, List, [], ◌∷◌, Option, length, map, option_map, codes}
 use Rattle.std.specs.List.{slice_split}
-use Rattle.clap.specs.Words.{Text, first_of, one_of, subcommand_of}
+use Rattle.clap.specs.Words.{Text, fault_of, first_of, one_of, subcommand_of}
 use Rattle.edi_words.specs.Requests.{edicad, values_at}
 
 -- the byte that parts words
@@ -11,6 +11,10 @@ word_break = 32
 -- the words of a line, parted by spaces
 abbrev pub words_in : Text → List Text
 words_in line = slice_split (λ x. x == word_break) line
+
+-- nothing is wrong with the words of a line
+abbrev pub is_sound : Text → Bool
+is_sound line = length (fault_of edicad (words_in line)) == 0
 
 -- the subcommand of a line, with the values of the option and of the files
 abbrev pub values_of : Text → Option (Text × List (Option Text))

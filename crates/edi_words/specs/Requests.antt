@@ -239,9 +239,9 @@ AsksForDigests rows = (with_schema : Bool) × IsFlag (one_of (codes "schema") ro
 
 -- The arguments of a subcommand can't be meant: the codes are no codes, standard input is to be read twice, explain is
 -- given two files of three, or no sheet of which all is to be said, or several and not all is to be said, hash is given
--- no sheet and no list and isn't asked for the digest of the schema, or it is given a list and one of these or asked for
--- JSON, the pairing of a comparison or the picture of a difference is to go to standard output, or delivery is to make a
--- manifest and to check one, or is to do one of these for several paths.
+-- no sheet and no list and isn't asked for the digest of the schema, or it has a list and one of these or is asked for
+-- JSON, the pairing of a comparison or the picture of a difference is to go to standard output, or delivery is to make
+-- and to check a manifest, or is to do one of these for several paths.
 abbrev pub IsMisuse : Text → List Row → Misuse → Type 0
 IsMisuse name rows (BadKinds bad) = HasBadKinds rows × AreBadKinds (first_of (codes "kinds") rows) bad
 IsMisuse name rows TwoStandard = 1 < standard_count rows

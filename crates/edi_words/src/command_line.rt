@@ -12,6 +12,16 @@ const DICTIONARY: &str = "The dictionary of the delivery, a file of type DIC";
 
 const JSON_ANSWER: &str = "Answers with a line of JSON";
 
+const JSON_DIGESTS: &str = "Gives the digests and refusals as lines of JSON";
+
+const JSON_EXPLANATION: &str = "Says the answer and the rest as lines of JSON";
+
+const LIST_DIGESTS: &str = "Says which digests of a list are still the same";
+
+const MANIFEST_DIGESTS: &str = "Says which digests of a manifest are still the same";
+
+const EVERY_PLACE: &str = "Lists every place that is wrong, and counts by rule";
+
 const VERSION: &str = "0.1.0";
 
 const STATUSES: &str = "\
@@ -126,17 +136,8 @@ fn hash_command<'a>(alloc: Global) -> Result<Command<'a>, AllocError>
     )?
     .arg(sheets_argument(alloc))?
     .arg(flag(alloc, "schema", "Gives the digest of the schema first"))?
-    .arg(option(
-        alloc,
-        "check",
-        "LIST",
-        "Says which digests of a list are still the same",
-    ))?
-    .arg(flag(
-        alloc,
-        "json",
-        "Gives the digests and refusals as lines of JSON",
-    ))
+    .arg(option(alloc, "check", "LIST", LIST_DIGESTS))?
+    .arg(flag(alloc, "json", JSON_DIGESTS))
 }
 
 // The subcommand that gives the digests of the sheets of deliveries.
@@ -155,12 +156,7 @@ fn delivery_command<'a>(alloc: Global) -> Result<Command<'a>, AllocError>
         "FILE",
         "Where the manifest of one delivery goes",
     ))?
-    .arg(option(
-        alloc,
-        "check",
-        "MANIFEST",
-        "Says which digests of a manifest are still the same",
-    ))
+    .arg(option(alloc, "check", "MANIFEST", MANIFEST_DIGESTS))
 }
 
 // The subcommand that compares two lists of digests.
@@ -185,16 +181,8 @@ fn explain_command<'a>(alloc: Global) -> Result<Command<'a>, AllocError>
     .arg(subject(alloc))?
     .arg(optional_file(alloc, "DIC", DICTIONARY))?
     .arg(sheets_argument(alloc))?
-    .arg(flag(
-        alloc,
-        "all",
-        "Lists every place that is wrong, and counts by rule",
-    ))?
-    .arg(flag(
-        alloc,
-        "json",
-        "Says the answer and the rest as lines of JSON",
-    ))
+    .arg(flag(alloc, "all", EVERY_PLACE))?
+    .arg(flag(alloc, "json", JSON_EXPLANATION))
 }
 
 // The subcommand that checks a pairing's file.

@@ -43,28 +43,12 @@ impl<'a> GivenKinds<'a> {
     }
 
     /// The four codes, or none where one is empty or two are equal.
-    pub fn new(
-        initial: &'a [u8],
-        final_node: &'a [u8],
-        left: &'a [u8],
-        right: &'a [u8],
-    ) -> Option<GivenKinds<'a>>
-        ensures good { IsSome result
-            ↔ AreKindCodes
-            (record { initial = initial.now; final_node = final_node.now; left = left.now; right = right.now }) }
-        ensures codes { IfSome result (λ k. k
-            ≡ record { initial = initial.now; final_node = final_node.now; left = left.now; right = right.now }) }
+    pub fn new(codes: ByRole<&'a [u8]>) -> Option<GivenKinds<'a>>
+        ensures good { IsSome result ↔ AreKindCodes (codes_given codes.entry) }
+        ensures codes { IfSome result (λ k. k ≡ codes_given codes.entry) }
     {
-        let kinds = Kinds::new(initial, final_node, left, right)?;
-        Some(GivenKinds {
-            kinds,
-            codes: ByRole {
-                initial,
-                final_node,
-                left,
-                right,
-            },
-        })
+        let kinds = Kinds::new(codes.initial, codes.final_node, codes.left, codes.right)?;
+        Some(GivenKinds { kinds, codes })
     }
 
     /// The kinds, as a schema takes them.

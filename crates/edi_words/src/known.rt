@@ -1,8 +1,9 @@
 //! What the definitions say of known words.
-ghost use Rattle.std.specs.Prelude.{◌≡◌, [], ◌∷◌, None, Some, codes};
+ghost use Rattle.std.specs.Prelude.{◌≡◌, [], ◌∷◌, None, Some, codes, true};
+ghost use Rattle.std.specs.List.{list_all};
 ghost use Rattle.clap.specs.Words.{fault_of, subcommand_of};
 ghost use Rattle.clap.specs.declared.error.ErrorKind.TheVariants.{DisplayHelp, DisplayVersion, InvalidSubcommand, MissingRequiredArgument, UnknownArgument};
-ghost use Rattle.edi_words.specs.Known.{all_of_line, brief_of, json_of, list_asked, named_by_of, lists_asked, manifests_asked, pairing_files_of, paths_asked, picture_of, records_of, sheets_of, values_of, with_schema_of, words_in};
+ghost use Rattle.edi_words.specs.Known.{all_of_line, brief_of, is_sound, json_of, list_asked, named_by_of, lists_asked, manifests_asked, pairing_files_of, paths_asked, picture_of, records_of, sheets_of, values_of, with_schema_of, words_in};
 ghost use Rattle.edi_words.specs.Requests.{edicad};
 
 /// Known words ask for what they should.
@@ -91,34 +92,35 @@ pub fn known_words_are_asked()
         ) }
     ensures picture { picture_of (codes "edicad diff --brief --picture f s d a b") ≡ Some (Some (codes "f")) }
     ensures no_picture { picture_of (codes "edicad diff s d a b") ≡ Some None }
-    ensures no_bundle_fault { fault_of edicad (words_in (codes "edicad")) ≡ [] }
-    ensures no_check_fault { fault_of edicad (words_in (codes "edicad check s d v")) ≡ [] }
-    ensures no_canon_fault { fault_of edicad (words_in (codes "edicad canon s --kinds=A,B,C,D d v o")) ≡ [] }
-    ensures no_compare_fault { fault_of edicad (words_in (codes "edicad compare s d a b")) ≡ [] }
-    ensures no_hash_fault { fault_of edicad (words_in (codes "edicad hash s d a b c")) ≡ [] }
-    ensures no_delivery_fault { fault_of edicad (words_in (codes "edicad delivery --kinds=A,B,C,D p")) ≡ [] }
-    ensures no_manifest_fault { fault_of edicad (words_in (codes "edicad delivery p --manifest m")) ≡ [] }
-    ensures no_manifest_check_fault { fault_of edicad (words_in (codes "edicad delivery --check m p")) ≡ [] }
+    ensures sound { list_all is_sound (codes "edicad"
+        ∷ codes "edicad check s d v"
+        ∷ codes "edicad canon s --kinds=A,B,C,D d v o"
+        ∷ codes "edicad compare s d a b"
+        ∷ codes "edicad hash s d a b c"
+        ∷ codes "edicad delivery --kinds=A,B,C,D p"
+        ∷ codes "edicad delivery p --manifest m"
+        ∷ codes "edicad delivery --check m p"
+        ∷ codes "edicad changed a b"
+        ∷ codes "edicad explain s d v"
+        ∷ codes "edicad explain --all s d a b"
+        ∷ codes "edicad explain"
+        ∷ codes "edicad explain 403"
+        ∷ codes "edicad verify s d a b f"
+        ∷ codes "edicad compare --pairing f s d a b"
+        ∷ codes "edicad diff s d a b"
+        ∷ codes "edicad diff --name-by X,Y s d a b"
+        ∷ codes "edicad diff --brief s d a b"
+        ∷ codes "edicad diff s d a b --json"
+        ∷ codes "edicad diff --records s d a b"
+        ∷ codes "edicad draw s d v o"
+        ∷ codes "edicad diff --brief --picture f s d a b"
+        ∷ codes "edicad hash s d a --schema"
+        ∷ codes "edicad hash s d"
+        ∷ codes "edicad hash --check l s d"
+        ∷ []) ≡ true }
     ensures no_path { fault_of edicad (words_in (codes "edicad delivery")) ≡ MissingRequiredArgument ∷ [] }
-    ensures no_changed_fault { fault_of edicad (words_in (codes "edicad changed a b")) ≡ [] }
     ensures no_after { fault_of edicad (words_in (codes "edicad changed a")) ≡ MissingRequiredArgument ∷ [] }
-    ensures no_explain_fault { fault_of edicad (words_in (codes "edicad explain s d v")) ≡ [] }
-    ensures no_all_fault { fault_of edicad (words_in (codes "edicad explain --all s d a b")) ≡ [] }
-    ensures no_rules_fault { fault_of edicad (words_in (codes "edicad explain")) ≡ [] }
-    ensures no_rule_fault { fault_of edicad (words_in (codes "edicad explain 403")) ≡ [] }
-    ensures no_verify_fault { fault_of edicad (words_in (codes "edicad verify s d a b f")) ≡ [] }
-    ensures no_pairing_fault { fault_of edicad (words_in (codes "edicad compare --pairing f s d a b")) ≡ [] }
-    ensures no_diff_fault { fault_of edicad (words_in (codes "edicad diff s d a b")) ≡ [] }
-    ensures no_names_fault { fault_of edicad (words_in (codes "edicad diff --name-by X,Y s d a b")) ≡ [] }
-    ensures no_brief_fault { fault_of edicad (words_in (codes "edicad diff --brief s d a b")) ≡ [] }
-    ensures no_json_fault { fault_of edicad (words_in (codes "edicad diff s d a b --json")) ≡ [] }
-    ensures no_records_fault { fault_of edicad (words_in (codes "edicad diff --records s d a b")) ≡ [] }
-    ensures no_draw_fault { fault_of edicad (words_in (codes "edicad draw s d v o")) ≡ [] }
-    ensures no_picture_fault { fault_of edicad (words_in (codes "edicad diff --brief --picture f s d a b")) ≡ [] }
     ensures no_drawing { fault_of edicad (words_in (codes "edicad draw s d v")) ≡ MissingRequiredArgument ∷ [] }
-    ensures no_schema_fault { fault_of edicad (words_in (codes "edicad hash s d a --schema")) ≡ [] }
-    ensures no_sheet { fault_of edicad (words_in (codes "edicad hash s d")) ≡ [] }
-    ensures no_list_fault { fault_of edicad (words_in (codes "edicad hash --check l s d")) ≡ [] }
     ensures no_dictionary { fault_of edicad (words_in (codes "edicad hash --schema s")) ≡ MissingRequiredArgument ∷ [] }
     ensures help { fault_of edicad (words_in (codes "edicad --help")) ≡ DisplayHelp ∷ [] }
     ensures version { fault_of edicad (words_in (codes "edicad --version")) ≡ DisplayVersion ∷ [] }

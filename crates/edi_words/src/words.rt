@@ -10,6 +10,7 @@ use crate::command_line::command;
 use crate::given_kinds::GivenKinds;
 use clap::error::ErrorKind;
 use clap::{ArgMatches, Error};
+use edi_schema::ByRole;
 use std::alloc::{AllocError, Global};
 
 // The path that stands for a standard stream.
@@ -145,8 +146,8 @@ pub enum PairRequest<'a> {
         pairing: &'a str,
         json: bool,
     },
-    /// What differs between them, object by object, record by record or as lines of JSON, or only how many records
-    /// differ; the identifiers, parted by commas, of the attributes that name objects; and where a picture of that goes.
+    /// What differs between them, object by object, record by record or as lines of JSON, or only how many records do;
+    /// the identifiers, parted by commas, of the attributes that name objects; and where a picture of that goes.
     Diff {
         brief: bool,
         records: bool,
@@ -672,13 +673,13 @@ fn kinds_in(text: &str) -> Result<GivenKinds<'_>, KindsFault<'_>>
     let Some((initial, final_node, left, right)) = four_codes(text) else {
         return Err(KindsFault::Count);
     };
-    let kinds = GivenKinds::new(
-        initial.as_bytes(),
-        final_node.as_bytes(),
-        left.as_bytes(),
-        right.as_bytes(),
-    );
-    match kinds {
+    let codes = ByRole {
+        initial: initial.as_bytes(),
+        final_node: final_node.as_bytes(),
+        left: left.as_bytes(),
+        right: right.as_bytes(),
+    };
+    match GivenKinds::new(codes) {
         Some(kinds) => Ok(kinds),
         None => Err(fault_of_four(initial, final_node, left, right)),
     }

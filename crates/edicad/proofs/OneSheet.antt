@@ -1,9 +1,11 @@
 -- The status of a run that makes something of one sheet.
-use Rattle.std.proofs.Common.{◌≡◌, ℕ, List, [], IsTrue, codes, refl, inl, inr, arith}
+use Rattle.std.proofs.Common.{◌≡◌, ℕ, Bool, false, List, [], IsTrue, codes, refl, sym, subst, inl, inr, arith}
+use Rattle.std.specs.Bool.{MatchBool}
 use Rattle.edi_schema.specs.Roles.{KindCodes}
 use Rattle.edi_compare.specs.Runs.{BeforeWriting}
 use Rattle.edi_compare.specs.declared.fault.RunFault.{RunFault}
 use Rattle.edi_files.specs.declared.product.Product.{Product}
+use Rattle.edi_words.specs.Requests.{is_standard_path}
 use Rattle.edi_words.specs.declared.words.SheetFiles.{SheetFiles}
 use Rattle.edi_answers.specs.declared.form.AnswerForm.TheVariants as answer_form
 use Rattle.edi_answers.specs.Effects.{Effects, Stream}
@@ -11,6 +13,7 @@ use Rattle.edi_answers.specs.Paths.{names_of_paths}
 use Rattle.edi_answers.specs.SheetRuns.{FileFault}
 use Rattle.edicad.specs.Made.{IsPut, IsReplaced, OfMade, PutFault}
 use Rattle.edi_answers.specs.Statuses.{Answers, Complains, IsSaid, IsWarned, Prints, PrintsFirst, paths_of}
+use Rattle.edicad.specs.Answered.{IsMadeStatus}
 use Rattle.edicad.specs.Statuses.{IsPutStatus, IsSendStatus}
 use Rattle.edi_outcome.specs.declared.outcome.Outcome.TheVariants as outcome
 use Rattle.edi_answers.proofs.Made.{files_map, were_there}
@@ -37,6 +40,10 @@ module _ (run : Effects) (out err : Stream) (kinds : KindCodes) (files : SheetFi
       leaves = inr (e, h);
       replaced = replaced;
     }
+
+    -- the path is none of a stream
+    pub made_put : is_standard_path path ≡ false → IsPutStatus run out err product kinds files path s → IsMadeStatus run out err product kinds files path s
+    made_put is h = subst (λ (b : Bool). MatchBool b (run.untouched × IsSendStatus run out err product kinds files s) (IsPutStatus run out err product kinds files path s)) (sym is) h
 
   module _ (product : Product) where
     -- what is made of it is sent to the output, or not

@@ -309,44 +309,15 @@ fn make<F: Folder, O: ByteOut, E: ByteOut>(
         (inputs F.Folder F.Reader.ByteIn folder.old) kinds.now files.now.scd.now result note.old.items note.new.items }
 {
     if is_standard(path) {
-        send(alloc, folder, product, kinds, files, out, err, note)
-    } else {
-        put(alloc, folder, product, kinds, files, path, out, err, note)
+        return send(alloc, folder, product, kinds, files, out, err, note);
     }
-}
-
-// What is made of a sheet, to a path.
-fn put<F: Folder, O: ByteOut, E: ByteOut>(
-    alloc: Global,
-    folder: &mut F,
-    product: Product,
-    kinds: &GivenKinds<'_>,
-    files: &SheetFiles<'_>,
-    path: &str,
-    out: &mut O,
-    err: &mut E,
-    note: &mut Vec<u8>,
-) -> u8
-    ensures status { IsSheetStatus result }
-    ensures answer { IsPutStatus
-        (effects F.Folder F.Reader.ByteIn F.Sink.ByteOut F.NewFile.ByteOut folder.old folder.new)
-        (written O.ByteOut out.old out.new) (written E.ByteOut err.old err.new) product kinds.now files.now path.now
-        result }
-    ensures note { HasNoteOf
-        (inputs F.Folder F.Reader.ByteIn folder.old) kinds.now files.now.scd.now result note.old.items note.new.items }
-{
     let paths = [files.scd, files.dic, files.vec, path];
     match sheets::put(alloc, folder, product, kinds, files, path, note) {
         Ok(()) => report::answer(alloc, folder, out, err, WORDS, &Outcome::Accepted, &paths),
-        Err(fault) => report::answer(
-            alloc,
-            folder,
-            out,
-            err,
-            WORDS,
-            &Outcome::Fault(fault),
-            &paths,
-        ),
+        Err(fault) => {
+            let outcome = Outcome::Fault(fault);
+            report::answer(alloc, folder, out, err, WORDS, &outcome, &paths)
+        }
     }
 }
 
@@ -422,9 +393,16 @@ fn diff_or_draw<F: Folder, O: ByteOut, E: ByteOut>(
     ensures note { HasNoteOf
         (inputs F.Folder F.Reader.ByteIn folder.old) kinds.now files.now.scd.now result note.old.items note.new.items }
 {
-    match picture {
-        Some(path) => draw_difference(alloc, folder, kinds, files, form, path, out, err, note),
-        None => diff(alloc, folder, kinds, files, form, out, err, note),
+    let Some(path) = picture else {
+        return diff(alloc, folder, kinds, files, form, out, err, note);
+    };
+    match sheets::draw_difference(alloc, folder, kinds, files, form, path, note) {
+        Ok(difference) => put_difference(&difference, out, err),
+        Err(fault) => {
+            let paths = [files.scd, files.dic, files.first, files.second, path];
+            let outcome = Outcome::Fault(fault);
+            report::answer(alloc, folder, out, err, WORDS, &outcome, &paths)
+        }
     }
 }
 
@@ -446,53 +424,13 @@ fn diff<F: Folder, O: ByteOut, E: ByteOut>(
     ensures note { HasNoteOf
         (inputs F.Folder F.Reader.ByteIn folder.now) kinds.now files.now.scd.now result note.old.items note.new.items }
 {
-    let paths = [files.scd, files.dic, files.first, files.second, "-"];
     match sheets::diff(alloc, folder, kinds, files, form, note) {
         Ok(difference) => put_difference(&difference, out, err),
-        Err(fault) => report::answer(
-            alloc,
-            folder,
-            out,
-            err,
-            WORDS,
-            &Outcome::Fault(fault),
-            &paths,
-        ),
-    }
-}
-
-// What differs between two sheets, in this form, and a picture of it to a path.
-fn draw_difference<F: Folder, O: ByteOut, E: ByteOut>(
-    alloc: Global,
-    folder: &mut F,
-    kinds: &GivenKinds<'_>,
-    files: &PairFiles<'_>,
-    form: TextForm<'_>,
-    path: &str,
-    out: &mut O,
-    err: &mut E,
-    note: &mut Vec<u8>,
-) -> u8
-    ensures status { IsPairStatus result }
-    ensures answer { IsPictureStatus
-        (effects F.Folder F.Reader.ByteIn F.Sink.ByteOut F.NewFile.ByteOut folder.old folder.new)
-        (written O.ByteOut out.old out.new) (written E.ByteOut err.old err.new) kinds.now files.now form.entry path.now
-        result }
-    ensures note { HasNoteOf
-        (inputs F.Folder F.Reader.ByteIn folder.old) kinds.now files.now.scd.now result note.old.items note.new.items }
-{
-    let paths = [files.scd, files.dic, files.first, files.second, path];
-    match sheets::draw_difference(alloc, folder, kinds, files, form, path, note) {
-        Ok(difference) => put_difference(&difference, out, err),
-        Err(fault) => report::answer(
-            alloc,
-            folder,
-            out,
-            err,
-            WORDS,
-            &Outcome::Fault(fault),
-            &paths,
-        ),
+        Err(fault) => {
+            let paths = [files.scd, files.dic, files.first, files.second, "-"];
+            let outcome = Outcome::Fault(fault);
+            report::answer(alloc, folder, out, err, WORDS, &outcome, &paths)
+        }
     }
 }
 

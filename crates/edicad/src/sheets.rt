@@ -5,11 +5,11 @@ ghost use Rattle.std.specs.Io.KnownBytes.{Appends};
 ghost use Rattle.edi_compare.specs.Runs.{BeforeWriting, FilesFault, MatchFault, IfThreeKnown, seen};
 ghost use Rattle.edi_diff.specs.UnderFiles.{IsDifferenceUnder};
 ghost use Rattle.edi_drawing.specs.UnderFiles.{IsDrawnDifferenceUnder};
-ghost use Rattle.edi_answers.specs.Notes.{GivesNote, HasNoteOf};
+ghost use Rattle.edi_answers.specs.Notes.{LeavesNote};
+ghost use Rattle.edi_answers.specs.PairRuns.{IsPairRun};
 ghost use Rattle.edi_outcome.specs.Words.{FaultHasNames};
-ghost use Rattle.edi_outcome.specs.Status.{status_of_fault};
 ghost use Rattle.edi_answers.specs.Effects.{effects, inputs};
-ghost use Rattle.edi_answers.specs.SheetRuns.{FileFault, IsPairPut, IsPairReplaced, OfFiles, OfPair, PairFileFault, PutPairFault};
+ghost use Rattle.edi_answers.specs.SheetRuns.{FileFault, IsPairPut, IsPairReplaced, OfFiles, PutPairFault};
 ghost use Rattle.edicad.specs.Made.{IsInput, IsMadeOf, IsNoInput, IsPictureOfPair, IsPut, IsReplaced, OfMade, PutFault, ShowsDifference, names_of_pair};
 
 use edi_answers::classes::{Kept, read_classes};
@@ -19,7 +19,7 @@ use edi_compare::{RunFault, canon_of};
 use edi_diff::{Difference, TextForm, diff_from};
 use edi_drawing::{DrawnDifference, FileNames, draw_difference_from, run_draw};
 use edi_files::{Folder, Product, output};
-use edi_line::{ByteIn, ByteOut, FileBytes};
+use edi_line::{ByteIn, ByteOut};
 use edi_schema::Kinds;
 use edi_words::{GivenKinds, PairFiles, SheetFiles};
 use edi_write::{Written, put_all};
@@ -46,11 +46,8 @@ pub fn put<F: Folder>(
         (effects F.Folder F.Reader.ByteIn F.Sink.ByteOut F.NewFile.ByteOut folder.old folder.new)
         product kinds.now files.now out.now }
     ensures names { IfErr result (λ e. FaultHasNames e 4) }
-    ensures noted { OnOk result
-        (GivesNote (inputs F.Folder F.Reader.ByteIn folder.old) kinds.now files.now.scd.now note.new.items) }
-    ensures unnoted { IfErr result (λ e.
-        HasNoteOf (inputs F.Folder F.Reader.ByteIn folder.old) kinds.now files.now.scd.now (status_of_fault e)
-        note.old.items note.new.items) }
+    ensures note { LeavesNote (inputs F.Folder F.Reader.ByteIn folder.old) kinds.now files.now.scd.now note.old.items
+        note.new.items result }
 {
     if is_input(folder, files, out) {
         return Err(RunFault::Write(Written { count: 0 }));
@@ -80,11 +77,8 @@ pub fn send<F: Folder, O: ByteOut>(
         × Appends (O.contents out.old) (O.contents out.new) (take count bytes)))) }
     ensures unwritten { IfErr result (λ e. BeforeWriting e (out.new ≡ out.old)) }
     ensures names { IfErr result (λ e. FaultHasNames e 4) }
-    ensures noted { OnOk result
-        (GivesNote (inputs F.Folder F.Reader.ByteIn folder.now) kinds.now files.now.scd.now note.new.items) }
-    ensures unnoted { IfErr result (λ e.
-        HasNoteOf (inputs F.Folder F.Reader.ByteIn folder.now) kinds.now files.now.scd.now (status_of_fault e)
-        note.old.items note.new.items) }
+    ensures note { LeavesNote (inputs F.Folder F.Reader.ByteIn folder.now) kinds.now files.now.scd.now note.old.items
+        note.new.items result }
 {
     match make(alloc, folder, product, kinds, files, note) {
         Ok(bytes) => write_all(out, &bytes),
@@ -102,21 +96,11 @@ pub fn diff<F: Folder>(
     form: TextForm<'_>,
     note: &mut Vec<u8>,
 ) -> Result<Difference, RunFault>
-    ensures ok { IfOk result (λ difference. OfPair (inputs F.Folder F.Reader.ByteIn folder.now) files.now
-        (λ s d a b. IsDifferenceUnder kinds.now s d a b form.entry difference)) }
-    ensures err { IfErr result
-        (PairFileFault (inputs F.Folder F.Reader.ByteIn folder.now) kinds.now files.now (λ _. ⊥)) }
-    ensures names { IfErr result (λ e. FaultHasNames e 5) }
-    ensures noted { IfOk result (λ _.
-        GivesNote (inputs F.Folder F.Reader.ByteIn folder.now) kinds.now files.now.scd.now note.new.items) }
-    ensures unnoted { IfErr result (λ e.
-        HasNoteOf (inputs F.Folder F.Reader.ByteIn folder.now) kinds.now files.now.scd.now (status_of_fault e)
-        note.old.items note.new.items) }
+    ensures { IsPairRun (inputs F.Folder F.Reader.ByteIn folder.now) kinds.now files.now note.old.items note.new.items
+        (λ difference s d a b. IsDifferenceUnder kinds.now s d a b form.entry difference) result }
 {
-    let pair = load_pair(alloc, folder, kinds, files, note)?;
-    let first = FileBytes::InPieces(pair.first);
-    let second = FileBytes::InPieces(pair.second);
-    let difference = diff_from(alloc, &pair.schema, first, second, form)?;
+    let (schema, first, second) = load_pair(alloc, folder, kinds, files, note)?;
+    let difference = diff_from(alloc, &schema, first, second, form)?;
     Ok(difference)
 }
 
@@ -142,11 +126,8 @@ pub fn draw_difference<F: Folder>(
         (effects F.Folder F.Reader.ByteIn F.Sink.ByteOut F.NewFile.ByteOut folder.old folder.new)
         (IsPictureOfPair kinds.now (names_of_pair files.now) form.entry) files.now out.now }
     ensures names { IfErr result (λ e. FaultHasNames e 5) }
-    ensures noted { IfOk result (λ _.
-        GivesNote (inputs F.Folder F.Reader.ByteIn folder.old) kinds.now files.now.scd.now note.new.items) }
-    ensures unnoted { IfErr result (λ e.
-        HasNoteOf (inputs F.Folder F.Reader.ByteIn folder.old) kinds.now files.now.scd.now (status_of_fault e)
-        note.old.items note.new.items) }
+    ensures note { LeavesNote (inputs F.Folder F.Reader.ByteIn folder.old) kinds.now files.now.scd.now note.old.items
+        note.new.items result }
 {
     if is_pair_input(folder, files, out) {
         return Err(RunFault::Write(Written { count: 0 }));
@@ -174,25 +155,15 @@ fn drawn_difference<F: Folder>(
     form: TextForm<'_>,
     note: &mut Vec<u8>,
 ) -> Result<DrawnDifference, RunFault>
-    ensures ok { IfOk result (λ drawn. OfPair (inputs F.Folder F.Reader.ByteIn folder.now) files.now
-        (λ s d a b. IsDrawnDifferenceUnder kinds.now (names_of_pair files.now) s d a b form.entry drawn)) }
-    ensures err { IfErr result
-        (PairFileFault (inputs F.Folder F.Reader.ByteIn folder.now) kinds.now files.now (λ _. ⊥)) }
-    ensures names { IfErr result (λ e. FaultHasNames e 5) }
-    ensures noted { IfOk result (λ _.
-        GivesNote (inputs F.Folder F.Reader.ByteIn folder.now) kinds.now files.now.scd.now note.new.items) }
-    ensures unnoted { IfErr result (λ e.
-        HasNoteOf (inputs F.Folder F.Reader.ByteIn folder.now) kinds.now files.now.scd.now (status_of_fault e)
-        note.old.items note.new.items) }
+    ensures { IsPairRun (inputs F.Folder F.Reader.ByteIn folder.now) kinds.now files.now note.old.items note.new.items
+        (λ drawn s d a b. IsDrawnDifferenceUnder kinds.now (names_of_pair files.now) s d a b form.entry drawn) result }
 {
-    let pair = load_pair(alloc, folder, kinds, files, note)?;
+    let (schema, first, second) = load_pair(alloc, folder, kinds, files, note)?;
     let names = FileNames {
         first: files.first,
         second: files.second,
     };
-    let first = FileBytes::InPieces(pair.first);
-    let second = FileBytes::InPieces(pair.second);
-    let drawn = draw_difference_from(alloc, &pair.schema, &names, first, second, form)?;
+    let drawn = draw_difference_from(alloc, &schema, &names, first, second, form)?;
     Ok(drawn)
 }
 
@@ -224,11 +195,8 @@ fn make<F: Folder>(
         (λ s d v. IsMadeOf product kinds.now files.now.vec.now s d v bytes.items)) }
     ensures err { IfErr result (FileFault (inputs F.Folder F.Reader.ByteIn folder.now) kinds.now files.now (λ _. ⊥)) }
     ensures names { IfErr result (λ e. FaultHasNames e 4) }
-    ensures noted { IfOk result (λ _.
-        GivesNote (inputs F.Folder F.Reader.ByteIn folder.now) kinds.now files.now.scd.now note.new.items) }
-    ensures unnoted { IfErr result (λ e.
-        HasNoteOf (inputs F.Folder F.Reader.ByteIn folder.now) kinds.now files.now.scd.now (status_of_fault e)
-        note.old.items note.new.items) }
+    ensures note { LeavesNote (inputs F.Folder F.Reader.ByteIn folder.now) kinds.now files.now.scd.now note.old.items
+        note.new.items result }
 {
     let mut scd = open_input(folder, files.scd, 1)?;
     let mut dic = open_input(folder, files.dic, 2)?;

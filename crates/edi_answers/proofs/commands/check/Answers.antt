@@ -22,7 +22,7 @@ returns-in-Err-clause-answer g c =
     file_status run out err c.args.kinds.now c.args.files.now c.args.form answer.result c.in-Err.fault c.in-Err.ensures.err answer.ensures.said
 
 pub returns-in-Ok-clause-note : goal.returns-in-Ok-clause-note
-returns-in-Ok-clause-note g c = inl c.in-Ok.ensures.noted
+returns-in-Ok-clause-note g c = inl c.in-Ok.ensures.note
 
 pub returns-in-Err-clause-note : goal.returns-in-Err-clause-note
 returns-in-Err-clause-note g c =
@@ -30,4 +30,4 @@ returns-in-Err-clause-note g c =
     let kinds = c.args.kinds.now in
     let path = c.args.files.now.scd.now in
     note_answered inputs kinds path c.args.note.now.items c.check.new.note.items (status_of_fault c.in-Err.fault) c.answer-in-Err.result
-    c.answer-in-Err.ensures.said.status c.in-Err.ensures.unnoted
+    c.answer-in-Err.ensures.said.status c.in-Err.ensures.note

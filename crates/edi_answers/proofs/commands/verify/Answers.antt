@@ -27,4 +27,4 @@ returns-clause-note g c =
     let new = c.verify.new.note.items in
     note_answered inputs kinds path c.args.note.now.items new (status_for (verified_outcome c.verify.result)) c.answer.result
     (subst (λ o. IsAnsweredAs (status_for o) c.answer.result) c.outcome_of_verified-outcome.ensures c.answer.ensures.said.status)
-    (note_verified inputs kinds path c.args.note.now.items new c.verify.result c.verify.ensures.noted c.verify.ensures.unnoted)
+    (note_verified inputs kinds path c.args.note.now.items new c.verify.result c.verify.ensures.note)

@@ -1,14 +1,13 @@
-use Rattle.std.proofs.Common.{◌∙◌, Some, ap, arith, inl, inr, refl}
+use Rattle.std.proofs.Common.{◌∙◌, Some, ap, arith, inr, refl}
 use Rattle.edi_compare.specs.Runs.{seen}
 use Rattle.edi_compare.proofs.Refusals.{err_kept}
 use Rattle.edi_compare.specs.Runs.{IsSheetUnder}
 use Rattle.edi_answers.specs.Effects.{inputs}
-use Rattle.edi_outcome.specs.Status.{status_of_fault}
 use Rattle.edi_answers.specs.SheetRuns.{AreThere, FileFault}
-use Rattle.edi_answers.specs.Notes.{HasNoteOf}
 use Rattle.edi_answers.proofs.Faults.{failed_at, file_fault, if_err_map, input_fault}
-use Rattle.edi_answers.proofs.Kept.{err_anyway, files_kept, note_given, ok_anyway, three_kept, unread}
+use Rattle.edi_answers.proofs.Kept.{files_kept, note_given, three_kept, unread}
 use Rattle.edi_answers.proofs.Made.{on_ok_map}
+use Rattle.edi_answers.proofs.Noted.{note_anyway, note_failed}
 use Rattle.edi_answers.proofs.sheets.check.Goals as goal
 
 pub returns-clause-ok : goal.returns-clause-ok
@@ -56,35 +55,18 @@ returns-in_err-classes-clause-err g c =
     (input_fault inputs kinds files there 1 (omega arith) (omega arith) real c.in_ok-scd.ensures.ok
     (failed_at g.F.Folder g.F.Reader.ByteIn folder files.scd.now c.in_ok-scd.scd c.read_classes.new.reader c.in_ok-scd.ensures.device) c.in_err-classes.field-0.0 c.in_err-classes.ensures.err)
 
-pub returns-clause-noted : goal.returns-clause-noted
-returns-clause-noted g c =
+pub returns-clause-note : goal.returns-clause-note
+returns-clause-note g c =
     let reader = g.F.Reader.ByteIn in
-    let folder = c.args.folder.now in
-    let inputs = inputs g.F.Folder reader folder in
+    let inputs = inputs g.F.Folder reader c.args.folder.now in
     let kinds = c.args.kinds.now in
-    let files = c.args.files.now in
-    ok_anyway c.run_check.result _
-    (note_given inputs kinds files.scd.now (reader.contents c.in_ok-scd.scd) c.in_ok-classes.classes.items c.read_classes.new.note.items c.in_ok-scd.ensures.ok
+    let path = c.args.files.now.scd.now in
+    note_anyway inputs kinds path c.args.note.now.items c.read_classes.new.note.items c.run_check.result
+    (note_given inputs kinds path (reader.contents c.in_ok-scd.scd) c.in_ok-classes.classes.items c.read_classes.new.note.items c.in_ok-scd.ensures.ok
     c.in_ok-classes.ensures.all c.in_ok-classes.ensures.note)
 
-pub returns-clause-unnoted : goal.returns-clause-unnoted
-returns-clause-unnoted g c =
-    let reader = g.F.Reader.ByteIn in
-    let folder = c.args.folder.now in
-    let inputs = inputs g.F.Folder reader folder in
-    let kinds = c.args.kinds.now in
-    let files = c.args.files.now in
-    err_anyway c.run_check.result _
-    (λ e. inl (note_given inputs kinds files.scd.now (reader.contents c.in_ok-scd.scd) c.in_ok-classes.classes.items c.read_classes.new.note.items c.in_ok-scd.ensures.ok
-    c.in_ok-classes.ensures.all c.in_ok-classes.ensures.note))
-
-pub returns-in_err-classes-clause-unnoted : goal.returns-in_err-classes-clause-unnoted
-returns-in_err-classes-clause-unnoted g c =
-    let reader = g.F.Reader.ByteIn in
-    let folder = c.args.folder.now in
-    let inputs = inputs g.F.Folder reader folder in
-    let kinds = c.args.kinds.now in
-    let files = c.args.files.now in
-    err_kept _ c.in_err-classes.field-0.0 (λ e. HasNoteOf inputs kinds files.scd.now (status_of_fault e) c.args.note.now.items c.read_classes.new.note.items)
+pub returns-in_err-classes-clause-note : goal.returns-in_err-classes-clause-note
+returns-in_err-classes-clause-note g c =
+    note_failed (inputs g.F.Folder g.F.Reader.ByteIn c.args.folder.now) c.args.kinds.now c.args.files.now.scd.now c.args.note.now.items c.read_classes.new.note.items _ c.in_err-classes.field-0.0
     c.from_residual-in_err-classes.ensures.1
     (inr (unread _ _ c.in_err-classes.field-0.0 c.in_err-classes.ensures.err, c.in_err-classes.ensures.unnoted))

@@ -23,7 +23,7 @@ returns-in-Err-clause-answer g c =
     (silent_before g.O.ByteOut c.in-Err.fault c.args.out.now c.send.new.out c.in-Err.ensures.unwritten) c.say_fault.ensures.said
 
 pub returns-in-Ok-clause-note : goal.returns-in-Ok-clause-note
-returns-in-Ok-clause-note g c = inl c.in-Ok.ensures.noted
+returns-in-Ok-clause-note g c = inl c.in-Ok.ensures.note
 
 pub returns-in-Err-clause-note : goal.returns-in-Err-clause-note
 returns-in-Err-clause-note g c =
@@ -31,4 +31,4 @@ returns-in-Err-clause-note g c =
     let kinds = c.args.kinds.now in
     let path = c.args.files.now.scd.now in
     note_warned inputs kinds path c.args.note.now.items c.send.new.note.items (g.F.Folder.why c.args.folder.now)
-    (written g.E.ByteOut c.args.err.now c.say_fault.new.err) c.in-Err.fault (paths_of c.args.files.now (codes "-")) c.say_fault.result c.say_fault.ensures.said c.in-Err.ensures.unnoted
+    (written g.E.ByteOut c.args.err.now c.say_fault.new.err) c.in-Err.fault (paths_of c.args.files.now (codes "-")) c.say_fault.result c.say_fault.ensures.said c.in-Err.ensures.note

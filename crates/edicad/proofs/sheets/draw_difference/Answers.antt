@@ -12,7 +12,7 @@ use Rattle.edicad.proofs.sheets.draw_difference.Goals as goal
 pub returns-in-Ok-put-clause-ok : goal.returns-in-Ok-put-clause-ok
 returns-in-Ok-put-clause-ok g c =
     let run = effects g.F.Folder g.F.Reader.ByteIn g.F.Sink.ByteOut g.F.NewFile.ByteOut c.args.folder.now c.put.new.folder in
-    let made = shown run.inputs c.args.kinds.now c.args.files.now c.args.form _ c.in-Ok.ensures.ok in (
+    let made = shown run.inputs c.args.kinds.now c.args.files.now c.args.form _ c.in-Ok.ensures.0 in (
       c.if-is_pair_input.ensures,
       of_made_pair run.inputs c.args.kinds.now c.args.files.now (ShowsDifference c.args.kinds.now (names_of_pair c.args.files.now) c.args.form c.in-Ok.field-0.difference) c.in-Ok.field-0.picture.items _ c.deref.ensures.value made
           (run.Puts c.args.out.now) c.in-Ok-put.ensures.ok,
@@ -22,7 +22,7 @@ pub returns-in-Ok-put-clause-replaced : goal.returns-in-Ok-put-clause-replaced
 returns-in-Ok-put-clause-replaced g c tells =
     let folder = c.args.folder.now in
     let inputs = inputs g.F.Folder g.F.Reader.ByteIn folder in
-    let made = shown inputs c.args.kinds.now c.args.files.now c.args.form _ c.in-Ok.ensures.ok in
+    let made = shown inputs c.args.kinds.now c.args.files.now c.args.form _ c.in-Ok.ensures.0 in
     goes_map _ _ _ _ _ _
     (whole_pair inputs c.args.kinds.now c.args.files.now (IsPictureOfPair c.args.kinds.now (names_of_pair c.args.files.now) c.args.form) c.in-Ok.field-0.picture.items _ c.deref.ensures.value
     (shown_of_some inputs c.args.kinds.now c.args.files.now c.args.form c.in-Ok.field-0.difference c.in-Ok.field-0.picture.items made) c.args.out.now (IsSpare (g.F.Folder.is_stray folder) (g.F.Folder.moment folder) (g.F.Folder.left_since folder)))
@@ -32,7 +32,7 @@ pub returns-in-Err-put-clause-err : goal.returns-in-Err-put-clause-err
 returns-in-Err-put-clause-err g c =
     let run = effects g.F.Folder g.F.Reader.ByteIn g.F.Sink.ByteOut g.F.NewFile.ByteOut c.args.folder.now c.put.new.folder in
     let stops = run.Stops c.args.out.now in
-    let made = shown run.inputs c.args.kinds.now c.args.files.now c.args.form _ c.in-Ok.ensures.ok in
+    let made = shown run.inputs c.args.kinds.now c.args.files.now c.args.form _ c.in-Ok.ensures.0 in
     let some = shown_of_some run.inputs c.args.kinds.now c.args.files.now c.args.form c.in-Ok.field-0.difference c.in-Ok.field-0.picture.items made in
     let IsMade = IsPictureOfPair c.args.kinds.now (names_of_pair c.args.files.now) c.args.form in
     inr (
@@ -48,7 +48,7 @@ pub returns-in-Err-put-clause-replaced : goal.returns-in-Err-put-clause-replaced
 returns-in-Err-put-clause-replaced g c tells =
     let folder = c.args.folder.now in
     let inputs = inputs g.F.Folder g.F.Reader.ByteIn folder in
-    let made = shown inputs c.args.kinds.now c.args.files.now c.args.form _ c.in-Ok.ensures.ok in
+    let made = shown inputs c.args.kinds.now c.args.files.now c.args.form _ c.in-Ok.ensures.0 in
     goes_map _ _ _ _ _ _
     (whole_pair inputs c.args.kinds.now c.args.files.now (IsPictureOfPair c.args.kinds.now (names_of_pair c.args.files.now) c.args.form) c.in-Ok.field-0.picture.items _ c.deref.ensures.value
     (shown_of_some inputs c.args.kinds.now c.args.files.now c.args.form c.in-Ok.field-0.difference c.in-Ok.field-0.picture.items made) c.args.out.now (IsSpare (g.F.Folder.is_stray folder) (g.F.Folder.moment folder) (g.F.Folder.left_since folder)))
@@ -61,6 +61,6 @@ returns-in-Err-clause-err g c =
     inr (
       c.if-is_pair_input.ensures,
       pair_unwritten run.inputs c.args.kinds.now c.args.files.now (λ n. OfMadePair run.inputs (IsPictureOfPair c.args.kinds.now (names_of_pair c.args.files.now) c.args.form) c.args.files.now (run.Stops c.args.out.now n)) e
-          c.in-Err.ensures.err,
+          c.in-Err.ensures.0,
       before_writing e run.untouched refl,
     )

@@ -14,7 +14,7 @@ use Rattle.edi_deliveries.proofs.manifests.ManifestRequest.put_found.Goals as go
 pub returns-then-status-eq0-clause-answer : goal.returns-then-status-eq0-clause-answer
 returns-then-status-eq0-clause-answer g c =
     let run = effects g.F.Folder g.F.Reader.ByteIn g.F.Sink.ByteOut g.F.NewFile.ByteOut c.args.folder.now c.store.new.folder in
-    let found = c.find_lines-status in
+    let found = c.find-status in
     let stored = IsStored run c.args.self.now.path.now c.args.self.now.file.now in
     all_found run.inputs (g.F.Folder.why c.args.folder.now) c.args.self.now.kinds.now (opened_of c.args.self.now.opened.now) c.new-lines.result.items found.new.lines.items
     c.new-lines.ensures.items (g.E.ByteOut.contents c.args.err.now) (g.E.ByteOut.contents found.new.err) (g.E.ByteOut.has_failed found.new.err) found.result found.ensures.found
@@ -25,7 +25,7 @@ pub returns-then-status-eq0-clause-replaced : goal.returns-then-status-eq0-claus
 returns-then-status-eq0-clause-replaced g c tells =
     let folder = c.args.folder.now in
     let run = effects g.F.Folder g.F.Reader.ByteIn g.F.Sink.ByteOut g.F.NewFile.ByteOut folder c.store.new.folder in
-    let found = c.find_lines-status in
+    let found = c.find-status in
     let d = opened_of c.args.self.now.opened.now in
     let err = written g.E.ByteOut c.args.err.now found.new.err in
     let Spare = IsSpare (g.F.Folder.is_stray folder) (g.F.Folder.moment folder) (g.F.Folder.left_since folder) in
@@ -38,7 +38,7 @@ returns-then-status-eq0-clause-replaced g c tells =
 pub returns-clause-answer : goal.returns-clause-answer
 returns-clause-answer g c =
     let run = effects g.F.Folder g.F.Reader.ByteIn g.F.Sink.ByteOut g.F.NewFile.ByteOut c.args.folder.now c.args.folder.now in
-    let found = c.find_lines-status in
+    let found = c.find-status in
     not_all_found run.inputs run.why c.args.self.now.kinds.now (opened_of c.args.self.now.opened.now) c.new-lines.result.items found.new.lines.items c.new-lines.ensures.items
     (g.E.ByteOut.contents c.args.err.now) (g.E.ByteOut.contents found.new.err) (g.E.ByteOut.has_failed found.new.err) found.result found.ensures.found
     (IsStored run c.args.self.now.path.now c.args.self.now.file.now) run.untouched c.if-status-eq0.false refl

@@ -13,7 +13,7 @@ pub returns-then-status-eq0-clause-answer : goal.returns-then-status-eq0-clause-
 returns-then-status-eq0-clause-answer g c =
     let why = g.F.Folder.why c.args.folder.now in
     let out = written g.O.ByteOut c.args.out.now c.print.new.out in
-    let found = c.find_lines-status in
+    let found = c.find-status in
     all_found (inputs g.F.Folder g.F.Reader.ByteIn c.args.folder.now) why c.args.self.now.kinds.now (opened_of c.args.self.now.opened.now) c.new-lines.result.items found.new.lines.items
     c.new-lines.ensures.items (g.E.ByteOut.contents c.args.err.now) (g.E.ByteOut.contents found.new.err) (g.E.ByteOut.has_failed found.new.err) found.result found.ensures.found
     why (IsPrinted out) (Prints out []) (g.E.ByteOut.contents c.print.new.err) (g.E.ByteOut.has_failed c.print.new.err) c.print.result c.if-status-eq0.true c.print.ensures.stays
@@ -22,7 +22,7 @@ returns-then-status-eq0-clause-answer g c =
 pub returns-clause-answer : goal.returns-clause-answer
 returns-clause-answer g c =
     let out = written g.O.ByteOut c.args.out.now c.args.out.now in
-    let found = c.find_lines-status in
+    let found = c.find-status in
     not_all_found (inputs g.F.Folder g.F.Reader.ByteIn c.args.folder.now) (g.F.Folder.why c.args.folder.now) c.args.self.now.kinds.now (opened_of c.args.self.now.opened.now)
     c.new-lines.result.items found.new.lines.items c.new-lines.ensures.items (g.E.ByteOut.contents c.args.err.now) (g.E.ByteOut.contents found.new.err)
     (g.E.ByteOut.has_failed found.new.err) found.result found.ensures.found (IsPrinted out) (Prints out []) c.if-status-eq0.false

@@ -3,7 +3,7 @@ use Rattle.edi_answers.specs.Effects.{effects, inputs, written}
 use Rattle.edi_outcome.specs.Status.{status_of_fault}
 use Rattle.edicad.proofs.Differing.{drawn_status, undrawn_status}
 use Rattle.edi_answers.proofs.Noted.{note_answered}
-use Rattle.edicad.proofs.command.draw_difference.Goals as goal
+use Rattle.edicad.proofs.command.diff_or_draw.Goals as goal
 
 pub returns-in-Ok-clause-answer : goal.returns-in-Ok-clause-answer
 returns-in-Ok-clause-answer g c =
@@ -11,19 +11,21 @@ returns-in-Ok-clause-answer g c =
     let put = c.put_difference in
     let out = written g.O.ByteOut c.args.out.now put.new.out in
     let err = written g.E.ByteOut c.args.err.now put.new.err in
-    drawn_status run out err c.args.kinds.now c.args.files.now c.args.form c.args.path.now put.result c.draw_difference.ensures.replaced
-    c.in-Ok.difference c.in-Ok.ensures.ok put.ensures.status put.ensures.answer put.ensures.unsaid
+    rw c.in-Some.is
+    (drawn_status run out err c.args.kinds.now c.args.files.now c.args.form c.in-Some.path.now put.result c.draw_difference.ensures.replaced
+    c.in-Ok.difference c.in-Ok.ensures.ok put.ensures.status put.ensures.answer put.ensures.unsaid)
 
 pub returns-in-Err-clause-answer : goal.returns-in-Err-clause-answer
 returns-in-Err-clause-answer g c =
     let run = effects g.F.Folder g.F.Reader.ByteIn g.F.Sink.ByteOut g.F.NewFile.ByteOut c.args.folder.now c.draw_difference.new.folder in
     let out = written g.O.ByteOut c.args.out.now c.answer.new.out in
     let err = written g.E.ByteOut c.args.err.now c.answer.new.err in
-    undrawn_status run out err c.args.kinds.now c.args.files.now c.args.form c.args.path.now c.answer.result c.draw_difference.ensures.replaced
-    c.in-Err.fault c.in-Err.ensures.err c.answer.ensures.said
+    rw c.in-Some.is
+    (undrawn_status run out err c.args.kinds.now c.args.files.now c.args.form c.in-Some.path.now c.answer.result c.draw_difference.ensures.replaced
+    c.in-Err.fault c.in-Err.ensures.err c.answer.ensures.said)
 
 pub returns-in-Ok-clause-note : goal.returns-in-Ok-clause-note
-returns-in-Ok-clause-note g c = inl c.in-Ok.ensures.noted
+returns-in-Ok-clause-note g c = inl c.in-Ok.ensures.note
 
 pub returns-in-Err-clause-note : goal.returns-in-Err-clause-note
 returns-in-Err-clause-note g c =
@@ -31,4 +33,4 @@ returns-in-Err-clause-note g c =
     let kinds = c.args.kinds.now in
     let path = c.args.files.now.scd.now in
     note_answered inputs kinds path c.args.note.now.items c.draw_difference.new.note.items (status_of_fault c.in-Err.fault) c.answer.result
-    c.answer.ensures.said.status c.in-Err.ensures.unnoted
+    c.answer.ensures.said.status c.in-Err.ensures.note

@@ -8,7 +8,7 @@ use Rattle.edi_explain.specs.Elsewhere.{elsewhere_line}
 use Rattle.edi_answers.specs.Effects.{inputs}
 use Rattle.edi_answers.specs.Hinted.{LacksRecord}
 use Rattle.edi_answers.proofs.Answering.{all_paths, one_more_path, paths_of, split_at_path}
-use Rattle.edi_answers.proofs.hinted.elsewhere_line.Goals as goal
+use Rattle.edi_answers.proofs.hinted.RefusedSheet.elsewhere_line.Goals as goal
 
 -- what a test says by its answer
 has_by : (t : Bool) (X Y : Type 0) → t ≡ true → MatchBool t X Y → X
@@ -21,7 +21,7 @@ lacks_by false X Y e h = h
 
 pub returns-then-branch : goal.returns-then-branch
 returns-then-branch g c =
-    let siblings = c.args.siblings.now in
+    let siblings = c.args.self.now.siblings.now in
     let i = c.loop-other.other-index in
     IfOk-weaker c.elsewhere_hint.result _ _ (λ line h. inl (
       paths_of (take i siblings),
@@ -35,13 +35,13 @@ returns-then-branch g c =
 
 pub loop-other-preserved : goal.loop-other-preserved
 loop-other-preserved g c =
-    let siblings = c.args.siblings.now in
+    let siblings = c.args.self.now.siblings.now in
     let i = c.loop-other.other-index in
-    let lacks = LacksRecord (inputs g.F.Folder g.F.Reader.ByteIn c.args.folder.now) c.args.path.now (shown c.args.pointer) in
+    let lacks = LacksRecord (inputs g.F.Folder g.F.Reader.ByteIn c.args.self.now.folder.now) c.args.self.now.path.now (shown c.args.pointer) in
     subst (All lacks) (sym (one_more_path siblings i _ c.loop-other-test.true))
     (All-push lacks (paths_of (take i siblings)) _ c.loop-other.invariant (lacks_by c.in_ok-has_record.field-0 _ _ c.if-branch.false c.in_ok-has_record.ensures))
 
 pub returns : goal.returns
 returns g c =
-    let lacks = LacksRecord (inputs g.F.Folder g.F.Reader.ByteIn c.args.folder.now) c.args.path.now (shown c.args.pointer) in
-    inr (subst (All lacks) (all_paths c.args.siblings.now c.loop-other.other-index (omega arith)) c.loop-other.invariant, c.new.ensures.items)
+    let lacks = LacksRecord (inputs g.F.Folder g.F.Reader.ByteIn c.args.self.now.folder.now) c.args.self.now.path.now (shown c.args.pointer) in
+    inr (subst (All lacks) (all_paths c.args.self.now.siblings.now c.loop-other.other-index (omega arith)) c.loop-other.invariant, c.new.ensures.items)

@@ -1,6 +1,6 @@
 use Rattle.std.proofs.Common.{◌∙◌, ◌++◌, ℕ, List, ap, subst}
 use Rattle.edi_explain.specs.RefusalHints.{AreRefusalHints}
-use Rattle.edi_answers.proofs.hinted.sheet_hints.Goals as goal
+use Rattle.edi_answers.proofs.hinted.RefusedSheet.sheet_hints.Goals as goal
 
 pub returns : goal.returns
 returns g c =
