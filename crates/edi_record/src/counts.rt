@@ -9,6 +9,7 @@ ghost use Rattle.edi_record.specs.inner.Stored.{AreTexts};
 ghost use Rattle.edi_record.specs.Texts.{IsCount};
 
 use crate::only::Only;
+use edi_line::Text;
 
 /// Whether a byte is the digit of this number.
 fn is_digit(byte: u8, number: usize) -> bool
@@ -34,7 +35,7 @@ fn are_worth(digits: &[u8], number: usize) -> bool
 }
 
 /// Whether a text is digits, one at least, that are worth the number.
-fn says(text: &[u8], number: usize) -> bool
+pub(crate) fn says(text: &[u8], number: usize) -> bool
     ensures { result ≡ counts_right (text.now ∷ []) number }
 {
     !text.is_empty() && are_worth(text, number)
@@ -48,12 +49,12 @@ pub fn is_count(text: &[u8], number: usize) -> bool
 }
 
 /// Whether a count is repeated, isn't digits, or isn't this number. It may be absent.
-pub(crate) fn is_wrong(count: Only<'_>, number: usize) -> bool
-    ensures { (all : List (List ℕ)) → AreTexts count.entry [] all → result ≡ not (counts_right all number) }
+pub(crate) fn is_wrong(count: &Only<Text>, number: usize) -> bool
+    ensures { (all : List (List ℕ)) → AreTexts count.now [] all → result ≡ not (counts_right all number) }
 {
     match count {
         Only::Absent => false,
-        Only::One(text) => !says(text, number),
+        Only::One(text) => !says(text.as_slice(), number),
         Only::Repeated => true,
     }
 }
