@@ -1,5 +1,5 @@
 -- Zones that go to what is kept of a record.
-use Rattle.std.proofs.Common.{◌≡◌, ℕ, ◌+◌, inl, inr, Bool, true, false, cond, not, ◌&&◌, List, [], ◌∷◌, length, Option, is_some, option_map, codes, bytes_eq, refl, sym, ap, ◌∙◌, subst, arith}
+use Rattle.std.proofs.Common.{◌≡◌, ℕ, ◌+◌, inl, inr, Bool, true, false, cond, not, ◌&&◌, List, [], ◌∷◌, length, Option, is_some, codes, bytes_eq, refl, sym, ap, ◌∙◌, subst, arith}
 use Rattle.std.specs.List.{list_any}
 use Rattle.std.proofs.lemmas.Bool.{or_right, or_parts}
 use Rattle.std.proofs.lemmas.Slice.Eq.{bytes_eq-Decides}
@@ -7,10 +7,8 @@ use Rattle.edi_line.specs.ZoneData.{ZoneData, has_code}
 use Rattle.edi_record.specs.Records.{values, has_points, is_link, known_anywhere, known_in, is_known}
 use Rattle.edi_record.specs.inner.Records.{is_open_after, is_extra}
 use Rattle.edi_record.specs.inner.RecordRules.{is_arc_kind}
-use Rattle.edi_record.specs.inner.Stored.{AreTexts, AreClasses, SharedName, with_next, StoresAttributes, StoresPoints, StoresEnds, StoresExtras, StoresRecord, TakesExtra, KeptAttributes, KeptExtras, KeptRecord}
-use Rattle.edi_record.specs.inner.Texts.{class_of}
+use Rattle.edi_record.specs.inner.Stored.{AreTexts, AreCounts, AreClasses, StoresAttributes, StoresPoints, StoresEnds, StoresExtras, StoresRecord, TakesExtra, KeptAttributes, KeptExtras, KeptRecord}
 use Rattle.edi_record.specs.declared.only.Only.{Only}
-use Rattle.edi_record.specs.declared.only.Only.TheVariants.{Absent, One, Repeated}
 use Rattle.edi_record.specs.declared.role.ZoneRole.TheVariants.{BodyCount, Skipped, Unknown}
 use Rattle.edi_record.specs.declared.record.Kind.{Kind}
 use Rattle.edi_record.specs.declared.record.Kind.TheVariants.{Pno, Par, Pfe, Fea, Lnk}
@@ -34,17 +32,6 @@ pub text_taken : {T : Type 0} (Are : Stores T) (old new : T) (code text : List �
     → ((left all : List (List ℕ)) → Are old (text ∷ left) all → Are new left all) → Are old (values code (z ∷ left)) all → Are new (values code left) all
 text_taken Are old new code text z left all e same takes h = takes (values code left) all (subst (λ vs. Are old vs all) (value_here code z left text e same) h)
 
--- the next text, of which is stored what it says
-pub texts_next : (o : Only (List ℕ)) (next text : List ℕ) (left all : List (List ℕ)) → next ≡ text → AreTexts o (text ∷ left) all → AreTexts (with_next o next) left all
-texts_next Absent next text left all same h = h ∙ ap (λ t. t ∷ left) (sym same)
-texts_next (One before) next text left all same h = let two = ap length h in omega (arith, two)
-texts_next Repeated next text left all same h = h
-
-pub classes_next : (o : Only (Option SharedName)) (next : Option SharedName) (text : List ℕ) (left all : List (List ℕ)) → class_of text ≡ option_map (λ name. name.value) next → AreClasses o (text ∷ left) all → AreClasses (with_next o next) left all
-classes_next Absent next text left all named h = (text, named, h)
-classes_next (One before) next text left all named h = let two = ap length h.2 in omega (arith, two)
-classes_next Repeated next text left all named h = h
-
 -- ---- counts
 
 pub count_pass : (code : List ℕ) (n all : ℕ) (z : ZoneData) (left : List ZoneData) → has_code code z ≡ false → all ≡ n + length (values code (z ∷ left)) → all ≡ n + length (values code left)
@@ -58,9 +45,9 @@ count_taken code n all z left e h = let here = ap length (value_here code z left
 pub record Others (code : List ℕ) (d : KeptRecord) (z : ZoneData) (left group : List ZoneData) : Type 0 where
   pub identifier : bytes_eq code (codes "RID") ≡ false → AreTexts d.identifier (values (codes "RID") left) (values (codes "RID") group)
   pub class : bytes_eq code (codes "SCP") ≡ false → AreClasses d.class (values (codes "SCP") left) (values (codes "SCP") group)
-  pub attribute_count : bytes_eq code (codes "ATC") ≡ false → AreTexts d.attribute_count (values (codes "ATC") left) (values (codes "ATC") group)
-  pub point_count : bytes_eq code (codes "PTC") ≡ false → is_arc_kind d.kind ≡ true → AreTexts d.body_count (values (codes "PTC") left) (values (codes "PTC") group)
-  pub end_count : bytes_eq code (codes "FTC") ≡ false → is_link d.kind ≡ true → AreTexts d.body_count (values (codes "FTC") left) (values (codes "FTC") group)
+  pub attribute_count : bytes_eq code (codes "ATC") ≡ false → AreCounts d.attribute_count (values (codes "ATC") left) (values (codes "ATC") group)
+  pub point_count : bytes_eq code (codes "PTC") ≡ false → is_arc_kind d.kind ≡ true → AreCounts d.body_count (values (codes "PTC") left) (values (codes "PTC") group)
+  pub end_count : bytes_eq code (codes "FTC") ≡ false → is_link d.kind ≡ true → AreCounts d.body_count (values (codes "FTC") left) (values (codes "FTC") group)
   pub counted_points : bytes_eq code (codes "COR") ≡ false → has_points d.kind ≡ true → length (values (codes "COR") group) ≡ d.counted + length (values (codes "COR") left)
   pub counted_ends : bytes_eq code (codes "FTP") ≡ false → is_link d.kind ≡ true → length (values (codes "FTP") group) ≡ d.counted + length (values (codes "FTP") left)
   pub attributes : bytes_eq code (codes "ATP") ≡ false → bytes_eq code (codes "ATV") ≡ false → (is_some d.attributes.opened && bytes_eq code (codes "TEX")) ≡ false → StoresAttributes d.attributes left group
@@ -72,9 +59,9 @@ pub others : (code : List ℕ) (d : KeptRecord) (z : ZoneData) (left group : Lis
 others code d z left group is h = record {
   identifier = λ e. texts_pass AreTexts d.identifier (codes "RID") z left (values (codes "RID") group) (no (codes "RID") e) h.identifier;
   class = λ e. texts_pass AreClasses d.class (codes "SCP") z left (values (codes "SCP") group) (no (codes "SCP") e) h.class;
-  attribute_count = λ e. texts_pass AreTexts d.attribute_count (codes "ATC") z left (values (codes "ATC") group) (no (codes "ATC") e) h.attribute_count;
-  point_count = λ e k. texts_pass AreTexts d.body_count (codes "PTC") z left (values (codes "PTC") group) (no (codes "PTC") e) (h.point_count k);
-  end_count = λ e k. texts_pass AreTexts d.body_count (codes "FTC") z left (values (codes "FTC") group) (no (codes "FTC") e) (h.end_count k);
+  attribute_count = λ e. texts_pass AreCounts d.attribute_count (codes "ATC") z left (values (codes "ATC") group) (no (codes "ATC") e) h.attribute_count;
+  point_count = λ e k. texts_pass AreCounts d.body_count (codes "PTC") z left (values (codes "PTC") group) (no (codes "PTC") e) (h.point_count k);
+  end_count = λ e k. texts_pass AreCounts d.body_count (codes "FTC") z left (values (codes "FTC") group) (no (codes "FTC") e) (h.end_count k);
   counted_points = λ e k. count_pass (codes "COR") d.counted (length (values (codes "COR") group)) z left (no (codes "COR") e) (h.counted_points k);
   counted_ends = λ e k. count_pass (codes "FTP") d.counted (length (values (codes "FTP") group)) z left (no (codes "FTP") e) (h.counted_ends k);
   attributes = λ e f g. attributes_pass d.attributes z left group (no (codes "ATP") e) (no (codes "ATV") f) (ap (λ c. is_some d.attributes.opened && bytes_eq c (codes "TEX")) is ∙ g) h.attributes;
@@ -151,8 +138,8 @@ extra_kept code d new z left group is e f extra takes h b =
 
 -- ---- counts of points or of ends
 
-pub body_count_taken : (d : KeptRecord) (new : Only (List ℕ)) (z : ZoneData) (left group : List ZoneData) (text : List ℕ) → CodeIs d.kind z.code BodyCount → text ≡ z.value
-    → ((left all : List (List ℕ)) → AreTexts d.body_count (text ∷ left) all → AreTexts new left all) → StoresRecord d (z ∷ left) group
+pub body_count_taken : (d : KeptRecord) (new : Only (Option ℕ)) (z : ZoneData) (left group : List ZoneData) (text : List ℕ) → CodeIs d.kind z.code BodyCount → text ≡ z.value
+    → ((left all : List (List ℕ)) → AreCounts d.body_count (text ∷ left) all → AreCounts new left all) → StoresRecord d (z ∷ left) group
     → StoresRecord (record { kind = d.kind; identifier = d.identifier; class = d.class; attribute_count = d.attribute_count; body_count = new; counted = d.counted; attributes = d.attributes; points = d.points; ends = d.ends; extras = d.extras }) left group
 body_count_taken d new z left group text (inl (arc, is)) same takes h =
     let o = others (codes "PTC") d z left group is h in
@@ -160,7 +147,7 @@ body_count_taken d new z left group text (inl (arc, is)) same takes h =
       identifier = o.identifier refl;
       class = o.class refl;
       attribute_count = o.attribute_count refl;
-      point_count = λ k. text_taken AreTexts d.body_count new (codes "PTC") text z left (values (codes "PTC") group) (has (codes "PTC") z is) same takes (h.point_count k);
+      point_count = λ k. text_taken AreCounts d.body_count new (codes "PTC") text z left (values (codes "PTC") group) (has (codes "PTC") z is) same takes (h.point_count k);
       end_count = λ k. absurd (no_arc d.kind arc k);
       counted_points = o.counted_points refl;
       counted_ends = o.counted_ends refl;
@@ -176,7 +163,7 @@ body_count_taken d new z left group text (inr (link, is)) same takes h =
       class = o.class refl;
       attribute_count = o.attribute_count refl;
       point_count = λ k. absurd (no_arc d.kind k link);
-      end_count = λ k. text_taken AreTexts d.body_count new (codes "FTC") text z left (values (codes "FTC") group) (has (codes "FTC") z is) same takes (h.end_count k);
+      end_count = λ k. text_taken AreCounts d.body_count new (codes "FTC") text z left (values (codes "FTC") group) (has (codes "FTC") z is) same takes (h.end_count k);
       counted_points = o.counted_points refl;
       counted_ends = o.counted_ends refl;
       attributes = o.attributes refl refl (no_set d);

@@ -10,12 +10,12 @@ ghost use Rattle.edi_record.specs.inner.Records.{ReadsAsRecord};
 ghost use Rattle.edi_record.specs.RecordRules.{just_one, is_identifier as is_identifier_text};
 ghost use Rattle.edi_record.specs.inner.RecordRules.{kind_in, is_arc_kind, counts_right, record_tests};
 ghost use Rattle.edi_record.specs.inner.RecordRefusal.{IsGroupRefusal};
-ghost use Rattle.edi_record.specs.inner.Stored.{AreTexts, AreClasses, StoresRecord, kept};
+ghost use Rattle.edi_record.specs.inner.Stored.{AreTexts, AreCounts, AreClasses, StoresRecord, kept};
 ghost use Rattle.edi_record.specs.inner.RecordParts.{AreEmpty, whole};
 ghost use Rattle.edi_record.specs.declared.record_parts.RecordParts.{RecordParts as Parts};
 
 use crate::attributes::Attributes;
-use crate::counts::is_wrong;
+use crate::counts::{is_wrong, read_count};
 use crate::ends::Ends;
 use crate::extras::Extras;
 use crate::fault::GroupFault;
@@ -29,7 +29,7 @@ use crate::read_pointer::ReadPointer;
 use crate::record::Kind;
 use crate::record_parts::{RecordHead, RecordParts};
 use crate::role::{ZoneRole, role_of};
-use edi_line::{Text, Zone};
+use edi_line::Zone;
 use std::alloc::{AllocError, Global};
 use std::mem::replace;
 use std::sync::Arc;
@@ -41,9 +41,10 @@ pub(crate) struct Draft {
     identifier: Only<Identifier>,
     /// None where the text is no pointer.
     class: Only<Option<Arc<Name>>>,
-    attribute_count: Only<Text>,
+    /// None where the text isn't digits, or is worth more than there can be zones.
+    attribute_count: Only<Option<usize>>,
     /// The count of an arc's points or of a link's ends.
-    body_count: Only<Text>,
+    body_count: Only<Option<usize>>,
     /// How many points or ends have come.
     counted: usize,
     attributes: Attributes,
@@ -110,7 +111,7 @@ impl Draft {
         match role_of(self.kind, zone.code) {
             ZoneRole::Identifier => take_identifier(&mut self.identifier, &mut parts.texts, text)?,
             ZoneRole::Class => take_class(&mut self.class, &mut parts.texts, text)?,
-            ZoneRole::AttributeCount => take_count(&mut self.attribute_count, alloc, text)?,
+            ZoneRole::AttributeCount => take_count(&mut self.attribute_count, text),
             ZoneRole::AttributeClass => {
                 self.attributes
                     .take_class(&mut parts.texts, &mut parts.attributes, text)?;
@@ -124,7 +125,7 @@ impl Draft {
                 self.attributes
                     .take_value(alloc, &mut parts.attributes, text)?;
             }
-            ZoneRole::BodyCount => take_count(&mut self.body_count, alloc, text)?,
+            ZoneRole::BodyCount => take_count(&mut self.body_count, text),
             ZoneRole::Position => {
                 self.counted += 1;
                 self.points.take(&mut parts.points, text)?;
@@ -191,12 +192,10 @@ fn take_identifier(
 }
 
 /// Takes a count.
-fn take_count(stored: &mut Only<Text>, alloc: Global, text: &[u8]) -> Result<(), AllocError>
-    ensures { OnOk result ((left all : List (List ℕ)) → AreTexts stored.old (text.now ∷ left) all
-        → AreTexts stored.new left all) }
+fn take_count(stored: &mut Only<Option<usize>>, text: &[u8])
+    ensures { (left all : List (List ℕ)) → AreCounts stored.old (text.now ∷ left) all → AreCounts stored.new left all }
 {
-    stored.take(Text::from_slice(alloc, text)?);
-    Ok(())
+    stored.take(read_count(text));
 }
 
 /// The name of the class that a text points to, or none where it is no pointer.
@@ -247,9 +246,9 @@ fn class_of(stored: &mut Only<Option<Arc<Name>>>) -> Option<Arc<Name>>
 }
 
 /// Whether the count of an arc's points or of a link's ends is wrong.
-fn is_body_wrong(kind: Kind, count: &Only<Text>, counted: usize) -> bool
-    ensures { (points ends : List (List ℕ)) → (is_arc_kind kind ≡ true → AreTexts count.now [] points)
-        → (is_link kind ≡ true → AreTexts count.now [] ends)
+fn is_body_wrong(kind: Kind, count: &Only<Option<usize>>, counted: usize) -> bool
+    ensures { (points ends : List (List ℕ)) → (is_arc_kind kind ≡ true → AreCounts count.now [] points)
+        → (is_link kind ≡ true → AreCounts count.now [] ends)
         → result
         ≡ ((is_arc_kind kind && not (counts_right points counted)) || (is_link kind && not (counts_right ends counted))) }
 {

@@ -1,5 +1,5 @@
 -- What is stored of a record's zones that have come, while others are left.
-use Rattle.std.specs.Prelude.{◌≡◌, ℕ, ◌+◌, ◌≤◌, Bool, true, false, not, ◌&&◌, ◌||◌, nat_le, is_some, is_none, List, [], ◌∷◌, ◌++◌, map, filter, length, if◌then◌else◌, Option, Some, None, IfSome, option_map, codes, bytes_eq}
+use Rattle.std.specs.Prelude.{◌≡◌, ℕ, ◌+◌, ◌^◌, ◌<◌, ◌≤◌, ◌==◌, Bool, true, false, not, ◌&&◌, ◌||◌, nat_le, is_some, is_none, List, [], ◌∷◌, ◌++◌, map, filter, length, if◌then◌else◌, Option, Some, None, IfSome, option_map, codes, bytes_eq}
 use Rattle.std.specs.List.{list_any, before_first}
 use Rattle.std.specs.declared.alloc.Global.{Global}
 use Rattle.std.specs.declared.sync.Arc.{Arc}
@@ -8,7 +8,7 @@ use Rattle.edi_line.specs.inner.ZoneLists.{done_of, open_of}
 use Rattle.edi_record.specs.inner.Texts.{point_in, class_of}
 use Rattle.edi_record.specs.Records.{values, has_points, is_link, opens, closes, points_at}
 use Rattle.edi_record.specs.inner.Records.{set_after, value_after, attributes, sns_after, ends, Placed, zones_placed, is_open_after, is_extra, extra, extras}
-use Rattle.edi_record.specs.inner.RecordRules.{is_arc_kind, count_until, repeats_code, has_bad_attribute, is_unknown_pointer}
+use Rattle.edi_record.specs.inner.RecordRules.{is_arc_kind, count_until, counts_right, repeats_code, has_bad_attribute, is_unknown_pointer}
 use Rattle.edi_record.specs.declared.record.Kind.{Kind}
 use Rattle.edi_record.specs.declared.record.Kind.TheVariants.{Pno, Par, Pfe, Fea, Lnk}
 use Rattle.edi_record.specs.declared.record.Attribute.{Attribute}
@@ -75,6 +75,18 @@ AreTexts Absent left all = all ≡ left
 AreTexts (One text) left all = all ≡ text ∷ left
 AreTexts Repeated left all = 2 ≤ length all
 
+-- the number that was read, if one was
+abbrev pub is_number : Option ℕ → ℕ → Bool
+is_number None n = false
+is_number (Some m) n = m == n
+
+-- the same, where the number is stored that the text counts, or none where it counts none that there can be of zones
+abbrev pub AreCounts : Only (Option ℕ) → List (List ℕ) → List (List ℕ) → Type 0
+AreCounts Absent left all = all ≡ left
+AreCounts (One number) left all =
+    (text : List ℕ) × ((n : ℕ) → n < 2 ^ 64 → is_number number n ≡ counts_right (text ∷ []) n) × (all ≡ text ∷ left)
+AreCounts Repeated left all = 2 ≤ length all
+
 -- the same, where the class is stored that the text names, or none where it is no pointer
 abbrev pub AreClasses : Only (Option SharedName) → List (List ℕ) → List (List ℕ) → Type 0
 AreClasses Absent left all = all ≡ left
@@ -126,8 +138,8 @@ pub record KeptRecord : Type 0 where
   pub kind : Kind
   pub identifier : Only (List ℕ)
   pub class : Only (Option SharedName)
-  pub attribute_count : Only (List ℕ)
-  pub body_count : Only (List ℕ)
+  pub attribute_count : Only (Option ℕ)
+  pub body_count : Only (Option ℕ)
   pub counted : ℕ
   pub attributes : KeptAttributes
   pub points : KeptPoints
@@ -252,10 +264,10 @@ TakesExtra z old new =
 pub record StoresRecord (d : KeptRecord) (left group : List ZoneData) : Type 0 where
   pub identifier : AreTexts d.identifier (values (codes "RID") left) (values (codes "RID") group)
   pub class : AreClasses d.class (values (codes "SCP") left) (values (codes "SCP") group)
-  pub attribute_count : AreTexts d.attribute_count (values (codes "ATC") left) (values (codes "ATC") group)
+  pub attribute_count : AreCounts d.attribute_count (values (codes "ATC") left) (values (codes "ATC") group)
   pub point_count : is_arc_kind d.kind ≡ true
-      → AreTexts d.body_count (values (codes "PTC") left) (values (codes "PTC") group)
-  pub end_count : is_link d.kind ≡ true → AreTexts d.body_count (values (codes "FTC") left) (values (codes "FTC") group)
+      → AreCounts d.body_count (values (codes "PTC") left) (values (codes "PTC") group)
+  pub end_count : is_link d.kind ≡ true → AreCounts d.body_count (values (codes "FTC") left) (values (codes "FTC") group)
   pub counted_points : has_points d.kind ≡ true
       → length (values (codes "COR") group) ≡ d.counted + length (values (codes "COR") left)
   pub counted_ends : is_link d.kind ≡ true

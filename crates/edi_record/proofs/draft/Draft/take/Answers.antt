@@ -2,7 +2,7 @@ use Rattle.std.proofs.Common.{◌≡◌, ◌∙◌, ◌&&◌, true, false, refl,
 use Rattle.edi_line.specs.ZoneData.{entry}
 use Rattle.edi_record.specs.Records.{values}
 use Rattle.edi_record.specs.declared.role.ZoneRole.TheVariants.{Identifier, Class, AttributeCount, AttributeClass, AttributeSet, AttributeValue, BodyCount, Position, EndPointer, EndSense, Skipped, Unknown}
-use Rattle.edi_record.specs.inner.Stored.{AreTexts, AreClasses, kept, kept_attributes, kept_extras}
+use Rattle.edi_record.specs.inner.Stored.{AreTexts, AreCounts, AreClasses, kept, kept_attributes, kept_extras}
 use Rattle.edi_record.proofs.RecordStored.{text_taken, count_taken, others, has, no_set, extras_stay, extras_move, extras_beside_set, set_is_extra, extra_kept, body_count_taken, skipped, unknown_taken}
 use Rattle.edi_record.proofs.Roles.{code_of, place_known, link_known, no_link}
 use Rattle.edi_record.proofs.draft.Draft.take.Goals as goal
@@ -47,8 +47,8 @@ returns-in_ok-take_class-in-Class-clause-keeps c = λ left group h.
       extras = extras_stay (codes "SCP") d z left group is refl refl (o.extras refl);
     }
 
-pub returns-in_ok-take_count-in-AttributeCount-clause-keeps : goal.returns-in_ok-take_count-in-AttributeCount-clause-keeps
-returns-in_ok-take_count-in-AttributeCount-clause-keeps c = λ left group h.
+pub returns-in-AttributeCount-clause-keeps : goal.returns-in-AttributeCount-clause-keeps
+returns-in-AttributeCount-clause-keeps c = λ left group h.
     let d = kept c.args.self.now c.args.parts.now in
     let z = entry c.args.zone.now in
     let is : z.code ≡ codes "ATC" = code_of d.kind z.code AttributeCount c.in-AttributeCount.ensures in
@@ -56,7 +56,7 @@ returns-in_ok-take_count-in-AttributeCount-clause-keeps c = λ left group h.
     record {
       identifier = o.identifier refl;
       class = o.class refl;
-      attribute_count = text_taken AreTexts d.attribute_count c.take_count.new.stored (codes "ATC") c.as_slice-text.result.now z left (values (codes "ATC") group) (has (codes "ATC") z is) c.as_slice-text.ensures.value c.in_ok-take_count-in-AttributeCount.ensures h.attribute_count;
+      attribute_count = text_taken AreCounts d.attribute_count c.take_count.new.stored (codes "ATC") c.as_slice-text.result.now z left (values (codes "ATC") group) (has (codes "ATC") z is) c.as_slice-text.ensures.value c.take_count.ensures h.attribute_count;
       point_count = o.point_count refl;
       end_count = o.end_count refl;
       counted_points = o.counted_points refl;
@@ -211,11 +211,11 @@ returns-in_ok-take_sense-in-EndSense-clause-keeps c = λ left group h.
       extras = extras_stay (codes "SNS") d z left group is refl refl (o.extras (link_known d.kind (codes "SNS") link.0 refl));
     }
 
-pub returns-in_ok-take_count-in-BodyCount-clause-keeps : goal.returns-in_ok-take_count-in-BodyCount-clause-keeps
-returns-in_ok-take_count-in-BodyCount-clause-keeps c = λ left group h.
+pub returns-in-BodyCount-clause-keeps : goal.returns-in-BodyCount-clause-keeps
+returns-in-BodyCount-clause-keeps c = λ left group h.
     let d = kept c.args.self.now c.args.parts.now in
     let z = entry c.args.zone.now in
-    body_count_taken d c.take_count-in-BodyCount.new.stored z left group c.as_slice-text.result.now (code_of d.kind z.code BodyCount c.in-BodyCount.ensures) c.as_slice-text.ensures.value c.in_ok-take_count-in-BodyCount.ensures h
+    body_count_taken d c.take_count-in-BodyCount.new.stored z left group c.as_slice-text.result.now (code_of d.kind z.code BodyCount c.in-BodyCount.ensures) c.as_slice-text.ensures.value c.take_count-in-BodyCount.ensures h
 
 pub returns-in-Skipped-clause-keeps : goal.returns-in-Skipped-clause-keeps
 returns-in-Skipped-clause-keeps c = λ left group h.
