@@ -7,7 +7,7 @@ use Rattle.edi_line.specs.ZoneData.{ZoneData, has_code}
 use Rattle.edi_record.specs.Records.{values, has_points, is_link, known_anywhere, known_in, is_known}
 use Rattle.edi_record.specs.inner.Records.{is_open_after, is_extra}
 use Rattle.edi_record.specs.inner.RecordRules.{is_arc_kind}
-use Rattle.edi_record.specs.inner.Stored.{AreTexts, AreCounts, AreClasses, StoresAttributes, StoresPoints, StoresEnds, StoresExtras, StoresRecord, TakesExtra, KeptAttributes, KeptExtras, KeptRecord}
+use Rattle.edi_record.specs.inner.Stored.{AreTexts, AreCounts, AreClassTexts, StoresAttributes, StoresPoints, StoresEnds, StoresExtras, StoresRecord, TakesExtra, KeptAttributes, KeptExtras, KeptRecord}
 use Rattle.edi_record.specs.declared.only.Only.{Only}
 use Rattle.edi_record.specs.declared.role.ZoneRole.TheVariants.{BodyCount, Skipped, Unknown}
 use Rattle.edi_record.specs.declared.record.Kind.{Kind}
@@ -44,7 +44,7 @@ count_taken code n all z left e h = let here = ap length (value_here code z left
 
 pub record Others (code : List ℕ) (d : KeptRecord) (z : ZoneData) (left group : List ZoneData) : Type 0 where
   pub identifier : bytes_eq code (codes "RID") ≡ false → AreTexts d.identifier (values (codes "RID") left) (values (codes "RID") group)
-  pub class : bytes_eq code (codes "SCP") ≡ false → AreClasses d.class (values (codes "SCP") left) (values (codes "SCP") group)
+  pub class : bytes_eq code (codes "SCP") ≡ false → AreClassTexts d.class (values (codes "SCP") left) (values (codes "SCP") group)
   pub attribute_count : bytes_eq code (codes "ATC") ≡ false → AreCounts d.attribute_count (values (codes "ATC") left) (values (codes "ATC") group)
   pub point_count : bytes_eq code (codes "PTC") ≡ false → is_arc_kind d.kind ≡ true → AreCounts d.body_count (values (codes "PTC") left) (values (codes "PTC") group)
   pub end_count : bytes_eq code (codes "FTC") ≡ false → is_link d.kind ≡ true → AreCounts d.body_count (values (codes "FTC") left) (values (codes "FTC") group)
@@ -58,7 +58,7 @@ pub record Others (code : List ℕ) (d : KeptRecord) (z : ZoneData) (left group 
 pub others : (code : List ℕ) (d : KeptRecord) (z : ZoneData) (left group : List ZoneData) → z.code ≡ code → StoresRecord d (z ∷ left) group → Others code d z left group
 others code d z left group is h = record {
   identifier = λ e. texts_pass AreTexts d.identifier (codes "RID") z left (values (codes "RID") group) (no (codes "RID") e) h.identifier;
-  class = λ e. texts_pass AreClasses d.class (codes "SCP") z left (values (codes "SCP") group) (no (codes "SCP") e) h.class;
+  class = λ e. texts_pass AreClassTexts d.class (codes "SCP") z left (values (codes "SCP") group) (no (codes "SCP") e) h.class;
   attribute_count = λ e. texts_pass AreCounts d.attribute_count (codes "ATC") z left (values (codes "ATC") group) (no (codes "ATC") e) h.attribute_count;
   point_count = λ e k. texts_pass AreCounts d.body_count (codes "PTC") z left (values (codes "PTC") group) (no (codes "PTC") e) (h.point_count k);
   end_count = λ e k. texts_pass AreCounts d.body_count (codes "FTC") z left (values (codes "FTC") group) (no (codes "FTC") e) (h.end_count k);

@@ -10,7 +10,7 @@ ghost use Rattle.edi_record.specs.inner.Records.{ReadsAsRecord};
 ghost use Rattle.edi_record.specs.RecordRules.{just_one, is_identifier as is_identifier_text};
 ghost use Rattle.edi_record.specs.inner.RecordRules.{kind_in, is_arc_kind, counts_right, record_tests};
 ghost use Rattle.edi_record.specs.inner.RecordRefusal.{IsGroupRefusal};
-ghost use Rattle.edi_record.specs.inner.Stored.{AreTexts, AreCounts, AreClasses, StoresRecord, kept};
+ghost use Rattle.edi_record.specs.inner.Stored.{AreTexts, AreCounts, AreClassTexts, StoresRecord, kept};
 ghost use Rattle.edi_record.specs.inner.RecordParts.{AreEmpty, whole};
 ghost use Rattle.edi_record.specs.declared.record_parts.RecordParts.{RecordParts as Parts};
 
@@ -214,8 +214,8 @@ fn take_class(
     texts: &mut LongTexts,
     text: &[u8],
 ) -> Result<(), AllocError>
-    ensures { OnOk result ((left all : List (List ℕ)) → AreClasses stored.old (text.now ∷ left) all
-        → AreClasses stored.new left all) }
+    ensures { OnOk result ((left all : List (List ℕ)) → AreClassTexts stored.old (text.now ∷ left) all
+        → AreClassTexts stored.new left all) }
 {
     stored.take(class_named(texts, text)?);
     Ok(())
@@ -237,9 +237,9 @@ fn identifier_of(stored: &mut Only<Identifier>) -> Option<Identifier>
 
 /// The name of a record's class, or none where rule 203 is broken.
 fn class_of(stored: &mut Only<Option<Arc<Name>>>) -> Option<Arc<Name>>
-    ensures { MatchOption result ((all : List (List ℕ)) → AreClasses stored.old [] all
+    ensures { MatchOption result ((all : List (List ℕ)) → AreClassTexts stored.old [] all
         → just_one (λ text. is_some (pointer text)) all ≡ false)
-        (λ class. (all : List (List ℕ)) → AreClasses stored.old [] all
+        (λ class. (all : List (List ℕ)) → AreClassTexts stored.old [] all
         → (just_one (λ text. is_some (pointer text)) all ≡ true) × (map class_in all ≡ Some class.value ∷ [])) }
 {
     replace(stored, Only::Absent).into_one()?

@@ -88,11 +88,11 @@ AreCounts (One number) left all =
 AreCounts Repeated left all = 2 ≤ length all
 
 -- the same, where the class is stored that the text names, or none where it is no pointer
-abbrev pub AreClasses : Only (Option SharedName) → List (List ℕ) → List (List ℕ) → Type 0
-AreClasses Absent left all = all ≡ left
-AreClasses (One class) left all =
+abbrev pub AreClassTexts : Only (Option SharedName) → List (List ℕ) → List (List ℕ) → Type 0
+AreClassTexts Absent left all = all ≡ left
+AreClassTexts (One class) left all =
     (text : List ℕ) × (class_of text ≡ option_map (λ name. name.value) class) × (all ≡ text ∷ left)
-AreClasses Repeated left all = 2 ≤ length all
+AreClassTexts Repeated left all = 2 ≤ length all
 
 -- a zone with this code and value goes from those that are left to those that have come
 abbrev pub Takes : {Part : Type 0} → (Part → List ZoneData → List ZoneData → Type 0) → List ℕ → List ℕ → Part → Part → Type 0
@@ -263,7 +263,7 @@ TakesExtra z old new =
 -- of a group so much is stored, where these zones are left
 pub record StoresRecord (d : KeptRecord) (left group : List ZoneData) : Type 0 where
   pub identifier : AreTexts d.identifier (values (codes "RID") left) (values (codes "RID") group)
-  pub class : AreClasses d.class (values (codes "SCP") left) (values (codes "SCP") group)
+  pub class : AreClassTexts d.class (values (codes "SCP") left) (values (codes "SCP") group)
   pub attribute_count : AreCounts d.attribute_count (values (codes "ATC") left) (values (codes "ATC") group)
   pub point_count : is_arc_kind d.kind ≡ true
       → AreCounts d.body_count (values (codes "PTC") left) (values (codes "PTC") group)

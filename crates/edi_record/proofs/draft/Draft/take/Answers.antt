@@ -2,7 +2,7 @@ use Rattle.std.proofs.Common.{◌≡◌, ◌∙◌, ◌&&◌, true, false, refl,
 use Rattle.edi_line.specs.ZoneData.{entry}
 use Rattle.edi_record.specs.Records.{values}
 use Rattle.edi_record.specs.declared.role.ZoneRole.TheVariants.{Identifier, Class, AttributeCount, AttributeClass, AttributeSet, AttributeValue, BodyCount, Position, EndPointer, EndSense, Skipped, Unknown}
-use Rattle.edi_record.specs.inner.Stored.{AreTexts, AreCounts, AreClasses, kept, kept_attributes, kept_extras}
+use Rattle.edi_record.specs.inner.Stored.{AreTexts, AreCounts, AreClassTexts, kept, kept_attributes, kept_extras}
 use Rattle.edi_record.proofs.RecordStored.{text_taken, count_taken, others, has, no_set, extras_stay, extras_move, extras_beside_set, set_is_extra, extra_kept, body_count_taken, skipped, unknown_taken}
 use Rattle.edi_record.proofs.Roles.{code_of, place_known, link_known, no_link}
 use Rattle.edi_record.proofs.draft.Draft.take.Goals as goal
@@ -35,7 +35,7 @@ returns-in_ok-take_class-in-Class-clause-keeps c = λ left group h.
     let o = others (codes "SCP") d z left group is h in
     record {
       identifier = o.identifier refl;
-      class = text_taken AreClasses d.class c.take_class.new.stored (codes "SCP") c.as_slice-text.result.now z left (values (codes "SCP") group) (has (codes "SCP") z is) c.as_slice-text.ensures.value c.in_ok-take_class-in-Class.ensures h.class;
+      class = text_taken AreClassTexts d.class c.take_class.new.stored (codes "SCP") c.as_slice-text.result.now z left (values (codes "SCP") group) (has (codes "SCP") z is) c.as_slice-text.ensures.value c.in_ok-take_class-in-Class.ensures h.class;
       attribute_count = o.attribute_count refl;
       point_count = o.point_count refl;
       end_count = o.end_count refl;
