@@ -7,7 +7,7 @@ use Rattle.edi_line.specs.ZoneData.{ZoneData, has_code}
 use Rattle.edi_record.specs.Records.{values, has_points, is_link, known_anywhere, known_in, is_known}
 use Rattle.edi_record.specs.inner.Records.{is_open_after, is_extra}
 use Rattle.edi_record.specs.inner.RecordRules.{is_arc_kind}
-use Rattle.edi_record.specs.inner.Stored.{AreTexts, AreCounts, AreClassTexts, StoresAttributes, StoresPoints, StoresEnds, StoresExtras, StoresRecord, TakesExtra, KeptAttributes, KeptExtras, KeptRecord}
+use Rattle.edi_record.specs.inner.Stored.{AreTexts, AreCounts, AreClassTexts, LeavesOpen, StoresAttributes, StoresPoints, StoresEnds, StoresExtras, StoresRecord, TakesExtra, KeptAttributes, KeptExtras, KeptRecord}
 use Rattle.edi_record.specs.declared.only.Only.{Only}
 use Rattle.edi_record.specs.declared.role.ZoneRole.TheVariants.{BodyCount, Skipped, Unknown}
 use Rattle.edi_record.specs.declared.record.Kind.{Kind}
@@ -97,13 +97,9 @@ no_set d = go (is_some d.attributes.opened)
     go true = refl
     go false = refl
 
--- where the rule isn't broken then, it wasn't before, and an attribute is open then or none is
-abbrev leaves_open : Bool → KeptAttributes → KeptAttributes → Type 0
-leaves_open is_open old new = new.is_broken ≡ false → (old.is_broken ≡ false) × (is_some new.opened ≡ is_open)
-
 -- the extras where a zone opened or closed an attribute
 pub extras_move : (is_open : Bool) (code : List ℕ) (d : KeptRecord) (new : KeptAttributes) (z : ZoneData) (left group : List ZoneData) → z.code ≡ code → cond (bytes_eq code (codes "ATP")) true (cond (bytes_eq code (codes "ATV")) false (is_some d.attributes.opened)) ≡ is_open
-    → leaves_open is_open d.attributes new → (d.attributes.is_broken ≡ false → StoresExtras d.kind (is_open_after (is_some d.attributes.opened) z) d.extras left group)
+    → LeavesOpen is_open d.attributes new → (d.attributes.is_broken ≡ false → StoresExtras d.kind (is_open_after (is_some d.attributes.opened) z) d.extras left group)
     → new.is_broken ≡ false → StoresExtras d.kind (is_some new.opened) d.extras left group
 extras_move is_open code d new z left group is after leaves h b =
     let was = leaves b in
@@ -111,7 +107,7 @@ extras_move is_open code d new z left group is after leaves h b =
     subst (λ o. StoresExtras d.kind o d.extras left group) same (h was.0)
 
 -- the extras where the open attribute took a character set
-pub extras_beside_set : (d : KeptRecord) (new : KeptAttributes) (z : ZoneData) (left group : List ZoneData) → z.code ≡ codes "TEX" → is_some d.attributes.opened ≡ true → leaves_open true d.attributes new
+pub extras_beside_set : (d : KeptRecord) (new : KeptAttributes) (z : ZoneData) (left group : List ZoneData) → z.code ≡ codes "TEX" → is_some d.attributes.opened ≡ true → LeavesOpen true d.attributes new
     → (d.attributes.is_broken ≡ false → StoresExtras d.kind (is_some d.attributes.opened) d.extras (z ∷ left) group) → new.is_broken ≡ false → StoresExtras d.kind (is_some new.opened) d.extras left group
 extras_beside_set d new z left group is was leaves h =
     extras_move true (codes "TEX") d new z left group is was leaves (λ b. extras_pass d.kind (is_some d.attributes.opened) d.extras z left group not_extra (h b))

@@ -15,8 +15,8 @@ use crate::record::Attribute;
 use edi_line::Text;
 use std::alloc::{AllocError, Global};
 
-/// Whether the last of the attributes that have come is open, so that its value may still come, and whether one of them
-/// is wrong. The attributes are in a list beside: an open one has no bytes as its value.
+/// Whether the last of the attributes that have come is open, so that its value may still come, and whether a zone of
+/// theirs is wrong. The attributes are in a list beside: the value of an open one is empty.
 #[derive(Clone, Copy)]
 pub(crate) struct Attributes {
     is_open: bool,

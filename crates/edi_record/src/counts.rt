@@ -22,8 +22,8 @@ fn with_digit(number: usize, byte: u8) -> Option<usize>
         .checked_add(usize::from(byte - b'0'))
 }
 
-/// The number that a text of digits counts, one at least; or none where it isn't digits, or is worth more than there can
-/// be zones.
+/// The number that a text of digits counts, one at least; or none where it isn't digits, or is worth more than there
+/// can be zones.
 pub(crate) fn read_count(text: &[u8]) -> Option<usize>
     ensures { (number : ℕ) → number < 2 ^ 64 → is_number result number ≡ counts_right (text.now ∷ []) number }
 {

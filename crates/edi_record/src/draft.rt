@@ -34,8 +34,8 @@ use std::alloc::{AllocError, Global};
 use std::mem::replace;
 use std::sync::Arc;
 
-/// What is stored of the zones of a record that have come, each looked at once, beside its parts. It owns what it stores,
-/// so a zone may be let go as soon as it is taken.
+/// What is stored of the zones of a record that have come, each looked at once, beside its parts. It owns what it
+/// stores, so a zone may be let go as soon as it is taken.
 pub(crate) struct Draft {
     kind: Kind,
     identifier: Only<Identifier>,
@@ -54,6 +54,7 @@ pub(crate) struct Draft {
 }
 
 impl Drop for Draft {
+    // A call for each record would take more than to let it go.
     #[inline(always)]
     fn drop(self) {
         let Draft {

@@ -18,8 +18,8 @@ use crate::record::Kind;
 use edi_line::Text;
 use std::alloc::{AllocError, Global};
 
-/// Whether a zone that has come, and should be a pointer or an SNS of an end, is none. The ends are in a list beside, and
-/// the SNS of the last of them may still come.
+/// Whether a zone that has come, and should be the pointer or the SNS of an end, is none. The ends are in a list
+/// beside, and the SNS of the last of them may still come.
 #[derive(Clone, Copy)]
 pub(crate) struct Ends {
     is_broken: bool,

@@ -53,7 +53,7 @@ role_in kind code =
     else (if bytes_eq code (codes "QAP") then Skipped
     else body_role_in kind code))))))))
 
--- what is stored behind one more
+-- what is stored when one more has come
 abbrev pub with_next : {T : Type 0} → Only T → T → Only T
 with_next Absent next = One next
 with_next (One before) next = Repeated
@@ -75,7 +75,7 @@ AreTexts Absent left all = all ≡ left
 AreTexts (One text) left all = all ≡ text ∷ left
 AreTexts Repeated left all = 2 ≤ length all
 
--- the number that was read, if one was
+-- this number was read
 abbrev pub is_number : Option ℕ → ℕ → Bool
 is_number None n = false
 is_number (Some m) n = m == n
@@ -267,7 +267,8 @@ pub record StoresRecord (d : KeptRecord) (left group : List ZoneData) : Type 0 w
   pub attribute_count : AreCounts d.attribute_count (values (codes "ATC") left) (values (codes "ATC") group)
   pub point_count : is_arc_kind d.kind ≡ true
       → AreCounts d.body_count (values (codes "PTC") left) (values (codes "PTC") group)
-  pub end_count : is_link d.kind ≡ true → AreCounts d.body_count (values (codes "FTC") left) (values (codes "FTC") group)
+  pub end_count : is_link d.kind ≡ true
+      → AreCounts d.body_count (values (codes "FTC") left) (values (codes "FTC") group)
   pub counted_points : has_points d.kind ≡ true
       → length (values (codes "COR") group) ≡ d.counted + length (values (codes "COR") left)
   pub counted_ends : is_link d.kind ≡ true
