@@ -8,6 +8,7 @@ pub mod RowsHold
 pub mod Numbered
 pub mod SheetStated
 pub mod AttributesRead
+pub mod LastItems
 pub mod AttributesStored
 pub mod EndsStored
 pub mod PointsStored

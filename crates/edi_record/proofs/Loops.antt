@@ -1,15 +1,14 @@
 -- Steps of the loops over the zones of a record.
-use Rattle.std.proofs.Common.{◌≡◌, ℕ, ◌+◌, ◌*◌, ◌-◌, ◌/◌, ◌%◌, ◌<◌, ◌≤◌, Bool, true, false, not, ◌&&◌, eqb, List, [], ◌∷◌, ◌++◌, length, get_or, take, drop, Some, None, codes, refl, sym, ap, ◌∙◌, arith, add-one, one-add, eq-eqb, ltb, lt-ltb}
+use Rattle.std.proofs.Common.{◌≡◌, ℕ, ◌+◌, ◌*◌, ◌^◌, ◌<◌, ◌≤◌, Bool, true, false, ◌&&◌, eqb, List, [], ◌∷◌, ◌++◌, length, get_or, drop, Some, None, codes, refl, sym, ap, ◌∙◌, arith, add-one, one-add, ltb, lt-ltb}
 use Rattle.std.specs.List.{list_any}
 use Rattle.std.specs.Str.{all_ascii_digits}
 use Rattle.std.specs.Char.{is_ascii_digit, digit_value}
-use Rattle.std.proofs.lemmas.Bool.{eqb-true, eqb-false, ne_eqb}
+use Rattle.std.proofs.lemmas.Bool.{eqb-true, eqb-false}
 use Rattle.std.proofs.lemmas.Slice.Eq.{bytes_eq-Decides}
-use Rattle.std.proofs.lemmas.Bool.Decides.{nat_tests}
 use Rattle.std.proofs.Math.Seq.{drop-cons}
 use Rattle.std.proofs.Math.ListN.{drop_of_length-le}
-use Rattle.std.proofs.lemmas.List.{append_assoc, take_more, take_all, nil_from_length}
-use Rattle.std.specs.Str.Parse.{digits_value, digits_value_after}
+use Rattle.std.proofs.lemmas.List.{append_assoc, nil_from_length}
+use Rattle.std.specs.Str.Parse.{digits_value_after}
 use Rattle.edi_line.specs.ZoneData.{ZoneData, entry, entries, has_code}
 use Rattle.edi_line.specs.declared.zone.Zone.{Zone}
 use Rattle.edi_record.specs.Records.{opens, closes, points_at}
@@ -21,9 +20,6 @@ use Rattle.edi_record.specs.inner.Stored.{is_stray, extras_after, has_stray}
 use Rattle.edi_record.specs.declared.record.Kind.{Kind}
 use Rattle.edi_record.specs.declared.record.Extra.{Extra}
 use Rattle.edi_record.specs.LinkEnds.{EndData}
-
-abbrev pub are_worth : List ℕ → ℕ → Bool
-are_worth digits number = all_ascii_digits digits && eqb (digits_value 10 digits) number
 
 -- ---- the zone at an index
 
@@ -127,71 +123,47 @@ no_end z zs text e same read =
 
 -- ---- counts
 
-pub digits_snoc : (xs : List ℕ) (d : ℕ) → all_ascii_digits (xs ++ d ∷ []) ≡ (all_ascii_digits xs && is_ascii_digit d)
-digits_snoc [] d = and_true (is_ascii_digit d)
-  where
-    and_true : (b : Bool) → (b && true) ≡ (true && b)
-    and_true true = refl
-    and_true false = refl
-digits_snoc (x ∷ xs) d = go (is_ascii_digit x) (digits_snoc xs d)
-  where
-    go : (b : Bool) → all_ascii_digits (xs ++ d ∷ []) ≡ (all_ascii_digits xs && is_ascii_digit d) → (b && all_ascii_digits (xs ++ d ∷ [])) ≡ ((b && all_ascii_digits xs) && is_ascii_digit d)
-    go true e = e
-    go false e = refl
+-- the digits are all that is left of a number, and this is what it is worth with what came before them
+abbrev pub comes_to : ℕ → List ℕ → ℕ → Bool
+comes_to before digits number = all_ascii_digits digits && eqb (digits_value_after 10 before digits) number
 
-value_snoc : (n : ℕ) (xs : List ℕ) (d : ℕ) → digits_value_after 10 n (xs ++ d ∷ []) ≡ digits_value_after 10 n xs * 10 + digit_value d
-value_snoc n [] d = refl
-value_snoc n (x ∷ xs) d = value_snoc (n * 10 + digit_value x) xs d
+more_with : (before : ℕ) (digits : List ℕ) → before ≤ digits_value_after 10 before digits
+more_with before [] = omega arith
+more_with before (d ∷ ds) = let more = more_with (before * 10 + digit_value d) ds in omega (arith, more)
 
--- a digit is worth less than ten
-digit_below : (d : ℕ) → is_ascii_digit d ≡ true → digit_value d < 10
-digit_below d e = grind (arith, nat_tests)
-
-no_less : (v d n : ℕ) → d < 10 → eqb (v * 10 + d) n ≡ (eqb d (n % 10) && eqb v (n / 10))
-no_less v d n h = go (eqb d (n % 10)) refl (eqb v (n / 10)) refl
+-- a byte that is no digit, or makes the number too large
+pub past : (before byte number : ℕ) (behind : List ℕ) → number < 2 ^ 64 → ((is_ascii_digit byte ≡ true) × (before * 10 + digit_value byte < 2 ^ 64) → ⊥) → comes_to before (byte ∷ behind) number ≡ false
+past before byte number behind below neither = go (is_ascii_digit byte) refl (eqb (digits_value_after 10 before (byte ∷ behind)) number) refl
   where
-    go : (p : Bool) → eqb d (n % 10) ≡ p → (q : Bool) → eqb v (n / 10) ≡ q → eqb (v * 10 + d) n ≡ (p && q)
-    go true e true f = let x = eqb-true _ _ e in let y = eqb-true _ _ f in eq-eqb (v * 10 + d) n (omega (arith, x, y))
-    go true e false f = ne_eqb (v * 10 + d) n (λ s. eqb-false _ _ f (omega (arith, s)))
-    go false e q f = ne_eqb (v * 10 + d) n (λ s. eqb-false _ _ e (omega (arith, s)))
-
-pub worth_snoc : (xs : List ℕ) (d n : ℕ) → are_worth (xs ++ d ∷ []) n ≡ ((is_ascii_digit d && eqb (digit_value d) (n % 10)) && are_worth xs (n / 10))
-worth_snoc xs d n = rw (digits_snoc xs d, value_snoc 0 xs d) (go (is_ascii_digit d) refl)
-  where
-    go : (b : Bool) → is_ascii_digit d ≡ b → ((all_ascii_digits xs && b) && eqb (digits_value 10 xs * 10 + digit_value d) n) ≡ ((b && eqb (digit_value d) (n % 10)) && are_worth xs (n / 10))
-    go true e = rw (no_less (digits_value 10 xs) (digit_value d) n (digit_below d e)) (swapped (all_ascii_digits xs) (eqb (digit_value d) (n % 10)) (eqb (digits_value 10 xs) (n / 10)))
+    go : (a : Bool) → is_ascii_digit byte ≡ a → (b : Bool) → eqb (digits_value_after 10 before (byte ∷ behind)) number ≡ b → ((a && all_ascii_digits behind) && b) ≡ false
+    go false e b f = refl
+    go true e true f = let more = more_with (before * 10 + digit_value byte) behind in let same = eqb-true _ _ f in absurd (neither (e, omega (arith, more, same)))
+    go true e false f = and_false (all_ascii_digits behind)
       where
-        swapped : (a b c : Bool) → ((a && true) && (b && c)) ≡ ((true && b) && (a && c))
-        swapped true b c = refl
-        swapped false true c = refl
-        swapped false false c = refl
-    go false e = nothing (all_ascii_digits xs) _
-      where
-        nothing : (a c : Bool) → ((a && false) && c) ≡ false
-        nothing true c = refl
-        nothing false c = refl
+        and_false : (c : Bool) → (c && false) ≡ false
+        and_false true = refl
+        and_false false = refl
 
-pub last_apart : (rest : List ℕ) → 1 ≤ length rest → take (length rest - 1) rest ++ get_or rest (length rest - 1) 0 ∷ [] ≡ rest
-last_apart rest some =
-    let below : length rest - 1 < length rest = omega arith in
-    sym (take_more rest (length rest - 1) 0 below) ∙ take_all (length rest - 1 + 1) rest (omega arith)
+pub first_apart : (rest : List ℕ) → 1 ≤ length rest → rest ≡ get_or rest 0 0 ∷ drop 1 rest
+first_apart [] some = absurd (omega arith)
+first_apart (x ∷ xs) some = refl
 
-pub says_some : (text : List ℕ) (n : ℕ) (e r : Bool) → e ≡ eqb (length text) 0 → e ≡ false → r ≡ are_worth text n → r ≡ counts_right (text ∷ []) n
+pub counts_some : (text : List ℕ) (n : ℕ) (empty : Bool) → empty ≡ eqb (length text) 0 → empty ≡ false → counts_right (text ∷ []) n ≡ comes_to 0 text n
 unfolding count
-says_some text n e r is full worth = go (all_ascii_digits text) refl
+counts_some text n empty is full = go (all_ascii_digits text) refl
   where
     some : ltb 0 (length text) ≡ true
     some = let no_zero = eqb-false _ _ (sym is ∙ full) in lt-ltb 0 (length text) (omega (arith, no_zero))
 
-    go : (b : Bool) → all_ascii_digits text ≡ b → r ≡ counts_right (text ∷ []) n
-    go true d = worth ∙ rw (some, d) refl
-    go false d = worth ∙ rw (some, d) refl
+    go : (b : Bool) → all_ascii_digits text ≡ b → counts_right (text ∷ []) n ≡ comes_to 0 text n
+    go true d = rw (some, d) refl
+    go false d = rw (some, d) refl
 
-pub says_none : (text : List ℕ) (n : ℕ) (e : Bool) → e ≡ eqb (length text) 0 → e ≡ true → not e ≡ counts_right (text ∷ []) n
+pub counts_none : (text : List ℕ) (n : ℕ) (empty : Bool) → empty ≡ eqb (length text) 0 → empty ≡ true → false ≡ counts_right (text ∷ []) n
 unfolding count
-says_none text n e is empty =
-    let same : text ≡ [] = nil_from_length text (eqb-true _ _ (sym is ∙ empty)) in
-    rw (empty, same) refl
+counts_none text n empty is none =
+    let same : text ≡ [] = nil_from_length text (eqb-true _ _ (sym is ∙ none)) in
+    rw same refl
 
 -- ---- pointers that aren't known
 

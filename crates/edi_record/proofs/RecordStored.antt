@@ -1,5 +1,5 @@
 -- Zones that go to what is kept of a record.
-use Rattle.std.proofs.Common.{◌≡◌, ℕ, ◌+◌, inl, inr, Bool, true, false, cond, not, ◌&&◌, List, [], ◌∷◌, length, is_some, codes, bytes_eq, refl, sym, ap, ◌∙◌, subst, arith}
+use Rattle.std.proofs.Common.{◌≡◌, ℕ, ◌+◌, inl, inr, Bool, true, false, cond, not, ◌&&◌, List, [], ◌∷◌, length, Option, is_some, codes, bytes_eq, refl, sym, ap, ◌∙◌, subst, arith}
 use Rattle.std.specs.List.{list_any}
 use Rattle.std.proofs.lemmas.Bool.{or_right, or_parts}
 use Rattle.std.proofs.lemmas.Slice.Eq.{bytes_eq-Decides}
@@ -7,7 +7,7 @@ use Rattle.edi_line.specs.ZoneData.{ZoneData, has_code}
 use Rattle.edi_record.specs.Records.{values, has_points, is_link, known_anywhere, known_in, is_known}
 use Rattle.edi_record.specs.inner.Records.{is_open_after, is_extra}
 use Rattle.edi_record.specs.inner.RecordRules.{is_arc_kind}
-use Rattle.edi_record.specs.inner.Stored.{AreTexts, StoresAttributes, StoresPoints, StoresEnds, StoresExtras, StoresRecord, TakesExtra, KeptAttributes, KeptExtras, KeptRecord}
+use Rattle.edi_record.specs.inner.Stored.{AreTexts, AreCounts, AreClassTexts, LeavesOpen, StoresAttributes, StoresPoints, StoresEnds, StoresExtras, StoresRecord, TakesExtra, KeptAttributes, KeptExtras, KeptRecord}
 use Rattle.edi_record.specs.declared.only.Only.{Only}
 use Rattle.edi_record.specs.declared.role.ZoneRole.TheVariants.{BodyCount, Skipped, Unknown}
 use Rattle.edi_record.specs.declared.record.Kind.{Kind}
@@ -21,12 +21,16 @@ use Rattle.edi_record.proofs.Stated.{any_apart}
 
 -- ---- texts
 
-pub texts_pass : (o : Only) (code : List ℕ) (z : ZoneData) (left : List ZoneData) (all : List (List ℕ)) → has_code code z ≡ false → AreTexts o (values code (z ∷ left)) all → AreTexts o (values code left) all
-texts_pass o code z left all e h = subst (λ vs. AreTexts o vs all) (value_skipped code z left e) h
+-- so much is stored of texts, where these are left and those are all
+abbrev Stores : Type 0 → Type 1
+Stores T = T → List (List ℕ) → List (List ℕ) → Type 0
 
-pub text_taken : (old new : Only) (code text : List ℕ) (z : ZoneData) (left : List ZoneData) (all : List (List ℕ)) → has_code code z ≡ true → text ≡ z.value
-    → ((left all : List (List ℕ)) → AreTexts old (text ∷ left) all → AreTexts new left all) → AreTexts old (values code (z ∷ left)) all → AreTexts new (values code left) all
-text_taken old new code text z left all e same takes h = takes (values code left) all (subst (λ vs. AreTexts old vs all) (value_here code z left text e same) h)
+pub texts_pass : {T : Type 0} (Are : Stores T) (o : T) (code : List ℕ) (z : ZoneData) (left : List ZoneData) (all : List (List ℕ)) → has_code code z ≡ false → Are o (values code (z ∷ left)) all → Are o (values code left) all
+texts_pass Are o code z left all e h = subst (λ vs. Are o vs all) (value_skipped code z left e) h
+
+pub text_taken : {T : Type 0} (Are : Stores T) (old new : T) (code text : List ℕ) (z : ZoneData) (left : List ZoneData) (all : List (List ℕ)) → has_code code z ≡ true → text ≡ z.value
+    → ((left all : List (List ℕ)) → Are old (text ∷ left) all → Are new left all) → Are old (values code (z ∷ left)) all → Are new (values code left) all
+text_taken Are old new code text z left all e same takes h = takes (values code left) all (subst (λ vs. Are old vs all) (value_here code z left text e same) h)
 
 -- ---- counts
 
@@ -40,10 +44,10 @@ count_taken code n all z left e h = let here = ap length (value_here code z left
 
 pub record Others (code : List ℕ) (d : KeptRecord) (z : ZoneData) (left group : List ZoneData) : Type 0 where
   pub identifier : bytes_eq code (codes "RID") ≡ false → AreTexts d.identifier (values (codes "RID") left) (values (codes "RID") group)
-  pub class : bytes_eq code (codes "SCP") ≡ false → AreTexts d.class (values (codes "SCP") left) (values (codes "SCP") group)
-  pub attribute_count : bytes_eq code (codes "ATC") ≡ false → AreTexts d.attribute_count (values (codes "ATC") left) (values (codes "ATC") group)
-  pub point_count : bytes_eq code (codes "PTC") ≡ false → is_arc_kind d.kind ≡ true → AreTexts d.body_count (values (codes "PTC") left) (values (codes "PTC") group)
-  pub end_count : bytes_eq code (codes "FTC") ≡ false → is_link d.kind ≡ true → AreTexts d.body_count (values (codes "FTC") left) (values (codes "FTC") group)
+  pub class : bytes_eq code (codes "SCP") ≡ false → AreClassTexts d.class (values (codes "SCP") left) (values (codes "SCP") group)
+  pub attribute_count : bytes_eq code (codes "ATC") ≡ false → AreCounts d.attribute_count (values (codes "ATC") left) (values (codes "ATC") group)
+  pub point_count : bytes_eq code (codes "PTC") ≡ false → is_arc_kind d.kind ≡ true → AreCounts d.body_count (values (codes "PTC") left) (values (codes "PTC") group)
+  pub end_count : bytes_eq code (codes "FTC") ≡ false → is_link d.kind ≡ true → AreCounts d.body_count (values (codes "FTC") left) (values (codes "FTC") group)
   pub counted_points : bytes_eq code (codes "COR") ≡ false → has_points d.kind ≡ true → length (values (codes "COR") group) ≡ d.counted + length (values (codes "COR") left)
   pub counted_ends : bytes_eq code (codes "FTP") ≡ false → is_link d.kind ≡ true → length (values (codes "FTP") group) ≡ d.counted + length (values (codes "FTP") left)
   pub attributes : bytes_eq code (codes "ATP") ≡ false → bytes_eq code (codes "ATV") ≡ false → (is_some d.attributes.opened && bytes_eq code (codes "TEX")) ≡ false → StoresAttributes d.attributes left group
@@ -53,11 +57,11 @@ pub record Others (code : List ℕ) (d : KeptRecord) (z : ZoneData) (left group 
 
 pub others : (code : List ℕ) (d : KeptRecord) (z : ZoneData) (left group : List ZoneData) → z.code ≡ code → StoresRecord d (z ∷ left) group → Others code d z left group
 others code d z left group is h = record {
-  identifier = λ e. texts_pass d.identifier (codes "RID") z left (values (codes "RID") group) (no (codes "RID") e) h.identifier;
-  class = λ e. texts_pass d.class (codes "SCP") z left (values (codes "SCP") group) (no (codes "SCP") e) h.class;
-  attribute_count = λ e. texts_pass d.attribute_count (codes "ATC") z left (values (codes "ATC") group) (no (codes "ATC") e) h.attribute_count;
-  point_count = λ e k. texts_pass d.body_count (codes "PTC") z left (values (codes "PTC") group) (no (codes "PTC") e) (h.point_count k);
-  end_count = λ e k. texts_pass d.body_count (codes "FTC") z left (values (codes "FTC") group) (no (codes "FTC") e) (h.end_count k);
+  identifier = λ e. texts_pass AreTexts d.identifier (codes "RID") z left (values (codes "RID") group) (no (codes "RID") e) h.identifier;
+  class = λ e. texts_pass AreClassTexts d.class (codes "SCP") z left (values (codes "SCP") group) (no (codes "SCP") e) h.class;
+  attribute_count = λ e. texts_pass AreCounts d.attribute_count (codes "ATC") z left (values (codes "ATC") group) (no (codes "ATC") e) h.attribute_count;
+  point_count = λ e k. texts_pass AreCounts d.body_count (codes "PTC") z left (values (codes "PTC") group) (no (codes "PTC") e) (h.point_count k);
+  end_count = λ e k. texts_pass AreCounts d.body_count (codes "FTC") z left (values (codes "FTC") group) (no (codes "FTC") e) (h.end_count k);
   counted_points = λ e k. count_pass (codes "COR") d.counted (length (values (codes "COR") group)) z left (no (codes "COR") e) (h.counted_points k);
   counted_ends = λ e k. count_pass (codes "FTP") d.counted (length (values (codes "FTP") group)) z left (no (codes "FTP") e) (h.counted_ends k);
   attributes = λ e f g. attributes_pass d.attributes z left group (no (codes "ATP") e) (no (codes "ATV") f) (ap (λ c. is_some d.attributes.opened && bytes_eq c (codes "TEX")) is ∙ g) h.attributes;
@@ -93,13 +97,9 @@ no_set d = go (is_some d.attributes.opened)
     go true = refl
     go false = refl
 
--- where the rule isn't broken then, it wasn't before, and an attribute is open then or none is
-abbrev leaves_open : Bool → KeptAttributes → KeptAttributes → Type 0
-leaves_open is_open old new = new.is_broken ≡ false → (old.is_broken ≡ false) × (is_some new.opened ≡ is_open)
-
 -- the extras where a zone opened or closed an attribute
 pub extras_move : (is_open : Bool) (code : List ℕ) (d : KeptRecord) (new : KeptAttributes) (z : ZoneData) (left group : List ZoneData) → z.code ≡ code → cond (bytes_eq code (codes "ATP")) true (cond (bytes_eq code (codes "ATV")) false (is_some d.attributes.opened)) ≡ is_open
-    → leaves_open is_open d.attributes new → (d.attributes.is_broken ≡ false → StoresExtras d.kind (is_open_after (is_some d.attributes.opened) z) d.extras left group)
+    → LeavesOpen is_open d.attributes new → (d.attributes.is_broken ≡ false → StoresExtras d.kind (is_open_after (is_some d.attributes.opened) z) d.extras left group)
     → new.is_broken ≡ false → StoresExtras d.kind (is_some new.opened) d.extras left group
 extras_move is_open code d new z left group is after leaves h b =
     let was = leaves b in
@@ -107,10 +107,10 @@ extras_move is_open code d new z left group is after leaves h b =
     subst (λ o. StoresExtras d.kind o d.extras left group) same (h was.0)
 
 -- the extras where the open attribute took a character set
-pub extras_beside_set : (d : KeptRecord) (new : KeptAttributes) (z : ZoneData) (left group : List ZoneData) → z.code ≡ codes "TEX" → is_some d.attributes.opened ≡ true → leaves_open (is_some d.attributes.opened) d.attributes new
+pub extras_beside_set : (d : KeptRecord) (new : KeptAttributes) (z : ZoneData) (left group : List ZoneData) → z.code ≡ codes "TEX" → is_some d.attributes.opened ≡ true → LeavesOpen true d.attributes new
     → (d.attributes.is_broken ≡ false → StoresExtras d.kind (is_some d.attributes.opened) d.extras (z ∷ left) group) → new.is_broken ≡ false → StoresExtras d.kind (is_some new.opened) d.extras left group
 extras_beside_set d new z left group is was leaves h =
-    extras_move (is_some d.attributes.opened) (codes "TEX") d new z left group is refl leaves (λ b. extras_pass d.kind (is_some d.attributes.opened) d.extras z left group not_extra (h b))
+    extras_move true (codes "TEX") d new z left group is was leaves (λ b. extras_pass d.kind (is_some d.attributes.opened) d.extras z left group not_extra (h b))
   where
     not_extra : is_extra d.kind (record { open_before = is_some d.attributes.opened; zone = z }) ≡ false
     not_extra = rw (has (codes "TEX") z is, was) refl
@@ -134,8 +134,8 @@ extra_kept code d new z left group is e f extra takes h b =
 
 -- ---- counts of points or of ends
 
-pub body_count_taken : (d : KeptRecord) (new : Only) (z : ZoneData) (left group : List ZoneData) (text : List ℕ) → CodeIs d.kind z.code BodyCount → text ≡ z.value
-    → ((left all : List (List ℕ)) → AreTexts d.body_count (text ∷ left) all → AreTexts new left all) → StoresRecord d (z ∷ left) group
+pub body_count_taken : (d : KeptRecord) (new : Only (Option ℕ)) (z : ZoneData) (left group : List ZoneData) (text : List ℕ) → CodeIs d.kind z.code BodyCount → text ≡ z.value
+    → ((left all : List (List ℕ)) → AreCounts d.body_count (text ∷ left) all → AreCounts new left all) → StoresRecord d (z ∷ left) group
     → StoresRecord (record { kind = d.kind; identifier = d.identifier; class = d.class; attribute_count = d.attribute_count; body_count = new; counted = d.counted; attributes = d.attributes; points = d.points; ends = d.ends; extras = d.extras }) left group
 body_count_taken d new z left group text (inl (arc, is)) same takes h =
     let o = others (codes "PTC") d z left group is h in
@@ -143,7 +143,7 @@ body_count_taken d new z left group text (inl (arc, is)) same takes h =
       identifier = o.identifier refl;
       class = o.class refl;
       attribute_count = o.attribute_count refl;
-      point_count = λ k. text_taken d.body_count new (codes "PTC") text z left (values (codes "PTC") group) (has (codes "PTC") z is) same takes (h.point_count k);
+      point_count = λ k. text_taken AreCounts d.body_count new (codes "PTC") text z left (values (codes "PTC") group) (has (codes "PTC") z is) same takes (h.point_count k);
       end_count = λ k. absurd (no_arc d.kind arc k);
       counted_points = o.counted_points refl;
       counted_ends = o.counted_ends refl;
@@ -159,7 +159,7 @@ body_count_taken d new z left group text (inr (link, is)) same takes h =
       class = o.class refl;
       attribute_count = o.attribute_count refl;
       point_count = λ k. absurd (no_arc d.kind k link);
-      end_count = λ k. text_taken d.body_count new (codes "FTC") text z left (values (codes "FTC") group) (has (codes "FTC") z is) same takes (h.end_count k);
+      end_count = λ k. text_taken AreCounts d.body_count new (codes "FTC") text z left (values (codes "FTC") group) (has (codes "FTC") z is) same takes (h.end_count k);
       counted_points = o.counted_points refl;
       counted_ends = o.counted_ends refl;
       attributes = o.attributes refl refl (no_set d);

@@ -1,7 +1,7 @@
 -- Zones that break no rule of records state a sheet.
-use Rattle.std.proofs.Common.{◌≡◌, ℕ, ◌≤◌, Bool, true, false, cond, not, ◌&&◌, inl, inr, List, [], ◌∷◌, length, map, Option, Some, None, option_map, is_none, is_some, codes, refl, sym, ap, ◌∙◌, arith}
-use Rattle.std.specs.List.{AllByRecursion, AllZip, list_any, list_all}
-use Rattle.std.proofs.lemmas.Bool.{and_from, or_parts, false_from_ne_true}
+use Rattle.std.proofs.Common.{◌≡◌, ℕ, Bool, true, false, cond, not, ◌&&◌, inl, inr, List, [], ◌∷◌, map, Option, Some, None, option_map, is_none, is_some, codes, refl, sym, ap, ◌∙◌}
+use Rattle.std.specs.List.{AllByRecursion, AllZip, list_any}
+use Rattle.std.proofs.lemmas.Bool.{or_parts, false_from_ne_true}
 use Rattle.std.proofs.lemmas.Option.{same_Some}
 use Rattle.edi_line.specs.Refusal.{IsUnbroken}
 use Rattle.edi_line.specs.ZoneData.{ZoneData, first, has_code}
@@ -9,7 +9,7 @@ use Rattle.edi_line.specs.Zones.{begins_group, before_end, groups_of, charset_of
 use Rattle.edi_record.specs.LinkEnds.{EndData}
 use Rattle.edi_record.specs.RecordRules.{BreaksRecordRule, IsOfKind, just_one, is_identifier}
 use Rattle.edi_record.specs.Records.{values, has_points, is_link, SheetData, StatesSheet}
-use Rattle.edi_record.specs.Shapes.{kind_code, is_in_shape}
+use Rattle.edi_record.specs.Shapes.{kind_code}
 use Rattle.edi_record.specs.Texts.{PointerText}
 use Rattle.edi_record.specs.declared.name.Name.{Name}
 use Rattle.edi_record.specs.declared.record.Attribute.{Attribute}
@@ -20,7 +20,7 @@ use Rattle.edi_record.specs.inner.RecordRules.{kind_in, in_kind, some_no_pointer
 use Rattle.edi_record.specs.inner.Records.{attributes, ends, extras, ReadsAsRecord}
 use Rattle.edi_record.specs.inner.Texts.{pointer, class_of, point_in}
 use Rattle.edi_record.proofs.Parts.{attributes_lack, ends_lack}
-use Rattle.edi_record.proofs.ReadRecords.{IsKept, all_kept, identifier_kept, point_kept, end_kept, shape_read}
+use Rattle.edi_record.proofs.ReadRecords.{IsKept, all_kept, identifier_kept, point_kept, end_kept}
 use Rattle.edi_record.proofs.RulesSaid.{kind_said, records_pass}
 use Rattle.edi_record.proofs.StatesSaid.{all_said}
 

@@ -1,6 +1,6 @@
 //! An end of a link.
 
-ghost use Rattle.std.specs.Prelude.{◌≡◌};
+ghost use Rattle.std.specs.Prelude.{◌≡◌, Some};
 
 use crate::identifier::Identifier;
 use crate::shared_parts::PointerStart;
@@ -75,5 +75,12 @@ impl End {
         ensures { result.now ≡ self.now.sns }
     {
         &self.sns
+    }
+
+    /// Gives it an SNS.
+    pub(crate) fn put_sns(&mut self, sns: Text)
+        ensures { self.new ≡ record self.old { sns = Some sns } }
+    {
+        self.sns = Some(sns);
     }
 }

@@ -7,13 +7,12 @@ ghost use Rattle.edi_record.specs.Records.{values, points_at};
 ghost use Rattle.edi_record.specs.inner.GroupRules.{closes_by, repeats_from, stretch_with_one, bad_ends};
 ghost use Rattle.edi_record.specs.inner.Records.{zones_placed, is_open_after, is_extra as is_extra_zone};
 ghost use Rattle.edi_record.specs.inner.RecordRules.{kind_in, has_no_kind, has_no_class, some_no_pointer as some_no_pointer_text, repeats_code as repeats_code, has_bad_attribute as bad_attribute, counts_wrong as counts_wrong_by, has_wrong_count as wrong_count, has_bad_point as bad_point, has_bad_end as bad_end, is_unknown_pointer, has_unknown_pointer as unknown_pointer};
-ghost use Rattle.edi_record.specs.inner.Stored.{AreTexts, is_stray};
+ghost use Rattle.edi_record.specs.inner.Stored.{is_stray};
 ghost use Rattle.edi_record.specs.inner.Texts.{pointer, point_in};
 
-use crate::counts::is_wrong;
+use crate::counts::says;
 use crate::extras::is_pointer;
 use crate::groups::{cut_value, first_value, only_value};
-use crate::only::Only;
 use crate::pointer::Pointer;
 use crate::record::{Kind, Point};
 use crate::role::{ZoneRole, role_of};
@@ -61,19 +60,6 @@ fn count_of(zones: &[Zone<'_>], code: [u8; 3]) -> usize
         left = behind;
     }
     count
-}
-
-/// The text of the zone with a code, or that there is none, or that there are more.
-fn only_of<'b>(zones: &'b [Zone<'_>], code: [u8; 3]) -> Only<'b>
-    ensures { AreTexts result [] (values code (entries zones.now)) }
-{
-    let Some((text, rest)) = cut_value(zones, code) else {
-        return Only::Absent;
-    };
-    match cut_value(rest, code) {
-        Some(_) => Only::Repeated,
-        None => Only::One(text),
-    }
 }
 
 /// Whether a text is no pointer.
@@ -244,7 +230,10 @@ pub(crate) fn has_bad_attribute(group: &[Zone<'_>]) -> bool
 fn counts_wrong(group: &[Zone<'_>], counting: [u8; 3], counted: [u8; 3]) -> bool
     ensures { result ≡ counts_wrong_by counting counted (entries group.now) }
 {
-    is_wrong(only_of(group, counting), count_of(group, counted))
+    let Some((text, rest)) = cut_value(group, counting) else {
+        return false;
+    };
+    cut_value(rest, counting).is_some() || !says(text, count_of(group, counted))
 }
 
 /// Whether rule 205 is broken: a wrong ATC, a wrong PTC of an arc, or a wrong FTC of a link.

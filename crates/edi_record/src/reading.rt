@@ -21,7 +21,6 @@ ghost use Rattle.edi_record.specs.inner.Records.{ReadsAsRecord};
 ghost use Rattle.edi_record.specs.declared.record.Record.{Record};
 ghost use Rattle.edi_record.specs.declared.record.Value.{Value};
 
-use crate::attributes::copied;
 use crate::fault::RecordFault;
 use crate::groups::first_value;
 use crate::record_parts::RecordParts;
@@ -36,7 +35,10 @@ use std::alloc::{AllocError, Global};
 fn charset_of(alloc: Global, zones: &[Zone<'_>]) -> Result<Option<Text>, AllocError>
     ensures { IfOk result (λ cse. cse ≡ option_map (λ e. e.value) (charset_in (entries zones.now))) }
 {
-    copied(alloc, first_value(zones, CSE))
+    match first_value(zones, CSE) {
+        Some(text) => Ok(Some(Text::from_slice(alloc, text)?)),
+        None => Ok(None),
+    }
 }
 
 /// The zone at this place and the zones behind it.

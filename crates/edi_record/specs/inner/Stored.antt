@@ -1,11 +1,14 @@
 -- What is stored of a record's zones that have come, while others are left.
-use Rattle.std.specs.Prelude.{◌≡◌, ℕ, ◌+◌, ◌≤◌, Bool, true, false, not, ◌&&◌, ◌||◌, nat_le, is_some, is_none, List, [], ◌∷◌, ◌++◌, map, filter, length, if◌then◌else◌, Option, Some, None, option_map, codes, bytes_eq}
+use Rattle.std.specs.Prelude.{◌≡◌, ℕ, ◌+◌, ◌^◌, ◌<◌, ◌≤◌, ◌==◌, Bool, true, false, not, ◌&&◌, ◌||◌, nat_le, is_some, is_none, List, [], ◌∷◌, ◌++◌, map, filter, length, if◌then◌else◌, Option, Some, None, IfSome, option_map, codes, bytes_eq}
 use Rattle.std.specs.List.{list_any, before_first}
+use Rattle.std.specs.declared.alloc.Global.{Global}
+use Rattle.std.specs.declared.sync.Arc.{Arc}
 use Rattle.edi_line.specs.ZoneData.{ZoneData, has_code}
-use Rattle.edi_record.specs.inner.Texts.{point_in}
+use Rattle.edi_line.specs.inner.ZoneLists.{done_of, open_of}
+use Rattle.edi_record.specs.inner.Texts.{point_in, class_of}
 use Rattle.edi_record.specs.Records.{values, has_points, is_link, opens, closes, points_at}
 use Rattle.edi_record.specs.inner.Records.{set_after, value_after, attributes, sns_after, ends, Placed, zones_placed, is_open_after, is_extra, extra, extras}
-use Rattle.edi_record.specs.inner.RecordRules.{is_arc_kind, count_until, repeats_code, has_bad_attribute, is_unknown_pointer}
+use Rattle.edi_record.specs.inner.RecordRules.{is_arc_kind, count_until, counts_right, repeats_code, has_bad_attribute, is_unknown_pointer}
 use Rattle.edi_record.specs.declared.record.Kind.{Kind}
 use Rattle.edi_record.specs.declared.record.Kind.TheVariants.{Pno, Par, Pfe, Fea, Lnk}
 use Rattle.edi_record.specs.declared.record.Attribute.{Attribute}
@@ -13,13 +16,12 @@ use Rattle.edi_record.specs.LinkEnds.{EndData}
 use Rattle.edi_record.specs.declared.record.Extra.{Extra}
 use Rattle.edi_record.specs.declared.role.ZoneRole.{ZoneRole}
 use Rattle.edi_record.specs.declared.role.ZoneRole.TheVariants.{Identifier, Class, AttributeCount, AttributeClass, AttributeSet, AttributeValue, BodyCount, Position, EndPointer, EndSense, Skipped, Unknown}
+use Rattle.edi_record.specs.declared.name.Name.{Name}
 use Rattle.edi_record.specs.declared.only.Only.{Only}
 use Rattle.edi_record.specs.declared.only.Only.TheVariants.{Absent, One, Repeated}
 use Rattle.edi_record.specs.declared.attributes.Attributes.{Attributes}
-use Rattle.edi_record.specs.declared.attributes.OpenAttribute.{OpenAttribute}
 use Rattle.edi_record.specs.declared.points.Points.{Points}
 use Rattle.edi_record.specs.declared.ends.Ends.{Ends}
-use Rattle.edi_record.specs.declared.ends.OpenEnd.{OpenEnd}
 use Rattle.edi_record.specs.declared.extras.Extras.{Extras}
 use Rattle.edi_record.specs.declared.draft.Draft.{Draft}
 use Rattle.edi_record.specs.declared.record.Point.{Point as PointMade}
@@ -51,11 +53,46 @@ role_in kind code =
     else (if bytes_eq code (codes "QAP") then Skipped
     else body_role_in kind code))))))))
 
+-- what is stored when one more has come
+abbrev pub with_next : {T : Type 0} → Only T → T → Only T
+with_next Absent next = One next
+with_next (One before) next = Repeated
+with_next Repeated next = Repeated
+
+-- what the one says, if there is one
+abbrev pub the_one : {T : Type 0} → Only T → Option T
+the_one Absent = None
+the_one (One said) = Some said
+the_one Repeated = None
+
+-- a name that records share
+abbrev pub SharedName : Type 0
+SharedName = Arc Name Global
+
 -- with those that are left these are all the texts; or there are two or more
-abbrev pub AreTexts : Only → List (List ℕ) → List (List ℕ) → Type 0
+abbrev pub AreTexts : Only (List ℕ) → List (List ℕ) → List (List ℕ) → Type 0
 AreTexts Absent left all = all ≡ left
-AreTexts (One text) left all = all ≡ text.now ∷ left
+AreTexts (One text) left all = all ≡ text ∷ left
 AreTexts Repeated left all = 2 ≤ length all
+
+-- this number was read
+abbrev pub is_number : Option ℕ → ℕ → Bool
+is_number None n = false
+is_number (Some m) n = m == n
+
+-- the same, where the number is stored that the text counts, or none where it counts none that there can be of zones
+abbrev pub AreCounts : Only (Option ℕ) → List (List ℕ) → List (List ℕ) → Type 0
+AreCounts Absent left all = all ≡ left
+AreCounts (One number) left all =
+    (text : List ℕ) × ((n : ℕ) → n < 2 ^ 64 → is_number number n ≡ counts_right (text ∷ []) n) × (all ≡ text ∷ left)
+AreCounts Repeated left all = 2 ≤ length all
+
+-- the same, where the class is stored that the text names, or none where it is no pointer
+abbrev pub AreClassTexts : Only (Option SharedName) → List (List ℕ) → List (List ℕ) → Type 0
+AreClassTexts Absent left all = all ≡ left
+AreClassTexts (One class) left all =
+    (text : List ℕ) × (class_of text ≡ option_map (λ name. name.value) class) × (all ≡ text ∷ left)
+AreClassTexts Repeated left all = 2 ≤ length all
 
 -- a zone with this code and value goes from those that are left to those that have come
 abbrev pub Takes : {Part : Type 0} → (Part → List ZoneData → List ZoneData → Type 0) → List ℕ → List ℕ → Part → Part → Type 0
@@ -66,11 +103,12 @@ Takes Keeps code value old new =
 -- the attributes that are done, beside the one that is open
 pub record KeptAttributes : Type 0 where
   pub done : List Attribute
-  pub opened : Option OpenAttribute
+  pub opened : Option Attribute
   pub is_broken : Bool
 
 abbrev pub kept_attributes : Attributes → List Attribute → KeptAttributes
-kept_attributes a done = record { done = done; opened = a.opened; is_broken = a.is_broken }
+kept_attributes a list =
+    record { done = done_of a.is_open list; opened = open_of a.is_open list; is_broken = a.is_broken }
 
 pub record KeptPoints : Type 0 where
   pub list : List PointMade
@@ -82,11 +120,11 @@ kept_points p list = record { list = list; is_broken = p.is_broken }
 -- the ends that are done, beside the one that is open
 pub record KeptEnds : Type 0 where
   pub done : List EndData
-  pub opened : Option OpenEnd
+  pub opened : Option EndData
   pub is_broken : Bool
 
 abbrev pub kept_ends : Ends → List EndData → KeptEnds
-kept_ends e done = record { done = done; opened = e.opened; is_broken = e.is_broken }
+kept_ends e list = record { done = done_of true list; opened = open_of true list; is_broken = e.is_broken }
 
 pub record KeptExtras : Type 0 where
   pub list : List Extra
@@ -98,10 +136,10 @@ kept_extras e list = record { list = list; is_broken = e.is_broken }
 -- all that is stored of a record
 pub record KeptRecord : Type 0 where
   pub kind : Kind
-  pub identifier : Only
-  pub class : Only
-  pub attribute_count : Only
-  pub body_count : Only
+  pub identifier : Only (List ℕ)
+  pub class : Only (Option SharedName)
+  pub attribute_count : Only (Option ℕ)
+  pub body_count : Only (Option ℕ)
   pub counted : ℕ
   pub attributes : KeptAttributes
   pub points : KeptPoints
@@ -133,29 +171,25 @@ set_with (Some text) left = Some text
 set_with None left = set_after left
 
 -- the attribute with its character set and this value
-abbrev pub attribute_of : OpenAttribute → Option (List ℕ) → List ℕ → Attribute
-attribute_of opened set value =
-    record { atp = record { rty = opened.class.rty.now; rid = opened.class.rid.now }; tex = set; atv = value }
-
-abbrev pub set_come : OpenAttribute → Option (List ℕ)
-set_come opened = option_map (λ s. s.now) opened.set
+abbrev pub attribute_of : Attribute → Option (List ℕ) → List ℕ → Attribute
+attribute_of opened set value = record { atp = opened.atp; tex = set; atv = value }
 
 -- the attributes that the zones which are left make with the open one
-abbrev pub attributes_with : Option OpenAttribute → List ZoneData → List (Option Attribute)
+abbrev pub attributes_with : Option Attribute → List ZoneData → List (Option Attribute)
 attributes_with None left = attributes left
 attributes_with (Some opened) left =
-    Some (attribute_of opened (set_with (set_come opened) left) (value_after left)) ∷ attributes left
+    Some (attribute_of opened (set_with opened.tex left) (value_after left)) ∷ attributes left
 
 -- the open attribute, closed with a value
-abbrev pub closed_with : List ℕ → Option OpenAttribute → List Attribute
+abbrev pub closed_with : List ℕ → Option Attribute → List Attribute
 closed_with value None = []
-closed_with value (Some opened) = attribute_of opened (set_come opened) value ∷ []
+closed_with value (Some opened) = attribute_of opened opened.tex value ∷ []
 
 -- among the zones that are left is a second character set, of the open attribute or of a later one
-abbrev pub repeats_with : Option OpenAttribute → List ZoneData → Bool
+abbrev pub repeats_with : Option Attribute → List ZoneData → Bool
 repeats_with None left = repeats_code opens (λ z. opens z || closes z) (codes "TEX") left
 repeats_with (Some opened) left =
-    nat_le (if is_some opened.set then 1 else 2) (count_until (λ z. opens z || closes z) (codes "TEX") left)
+    nat_le (if is_some opened.tex then 1 else 2) (count_until (λ z. opens z || closes z) (codes "TEX") left)
     || repeats_code opens (λ z. opens z || closes z) (codes "TEX") left
 
 -- of a group's attributes so much is stored, where these zones are left
@@ -165,9 +199,10 @@ pub record StoresAttributes (a : KeptAttributes) (left group : List ZoneData) : 
   pub stray : a.is_broken ≡ false
       → list_any is_stray (zones_placed false group) ≡ list_any is_stray (zones_placed (is_some a.opened) left)
   pub repeated : a.is_broken ≡ false → repeats_with None group ≡ repeats_with a.opened left
+  pub valueless : IfSome a.opened (λ opened. opened.atv ≡ [])
 
 -- where the rule isn't broken then, it wasn't before, and an attribute is open then or none is
-abbrev pub LeavesOpen : Bool → Attributes → Attributes → Type 0
+abbrev pub LeavesOpen : Bool → KeptAttributes → KeptAttributes → Type 0
 LeavesOpen is_open old new = new.is_broken ≡ false → (old.is_broken ≡ false) × (is_some new.opened ≡ is_open)
 
 -- of a group's points so much is stored, where these zones are left
@@ -185,33 +220,20 @@ abbrev pub sns_with : Option (List ℕ) → List ZoneData → Option (List ℕ)
 sns_with (Some text) left = Some text
 sns_with None left = sns_after left
 
-abbrev pub sns_come : OpenEnd → Option (List ℕ)
-sns_come opened = option_map (λ s. s.now) opened.sense
-
 -- the end with its SNS
-abbrev pub end_with : OpenEnd → Option (List ℕ) → EndData
-end_with opened sns = record {
-  lot = opened.pointer.parts.lot.now;
-  subset = opened.pointer.parts.subset.now;
-  target = record { rty = opened.pointer.parts.rty.now; rid = opened.pointer.parts.rid.now };
-  sns = sns;
-}
+abbrev pub end_with : EndData → Option (List ℕ) → EndData
+end_with opened sns = record { lot = opened.lot; subset = opened.subset; target = opened.target; sns = sns }
 
 -- the ends that the zones which are left make with the open one
-abbrev pub ends_with : Option OpenEnd → List ZoneData → List (Option EndData)
+abbrev pub ends_with : Option EndData → List ZoneData → List (Option EndData)
 ends_with None left = ends left
-ends_with (Some opened) left = Some (end_with opened (sns_with (sns_come opened) left)) ∷ ends left
-
--- the open end, closed
-abbrev pub ended_with : Option OpenEnd → List EndData
-ended_with None = []
-ended_with (Some opened) = end_with opened (sns_come opened) ∷ []
+ends_with (Some opened) left = Some (end_with opened (sns_with opened.sns left)) ∷ ends left
 
 -- among the zones that are left is an SNS before any end, or a second one, of the open end or of a later one
-abbrev pub bad_sns_with : Option OpenEnd → List ZoneData → Bool
+abbrev pub bad_sns_with : Option EndData → List ZoneData → Bool
 bad_sns_with None left = has_stray left || repeats_code points_at points_at (codes "SNS") left
 bad_sns_with (Some opened) left =
-    nat_le (if is_some opened.sense then 1 else 2) (count_until points_at (codes "SNS") left)
+    nat_le (if is_some opened.sns then 1 else 2) (count_until points_at (codes "SNS") left)
     || repeats_code points_at points_at (codes "SNS") left
 
 -- of a group's ends so much is stored, where these zones are left
@@ -241,11 +263,12 @@ TakesExtra z old new =
 -- of a group so much is stored, where these zones are left
 pub record StoresRecord (d : KeptRecord) (left group : List ZoneData) : Type 0 where
   pub identifier : AreTexts d.identifier (values (codes "RID") left) (values (codes "RID") group)
-  pub class : AreTexts d.class (values (codes "SCP") left) (values (codes "SCP") group)
-  pub attribute_count : AreTexts d.attribute_count (values (codes "ATC") left) (values (codes "ATC") group)
+  pub class : AreClassTexts d.class (values (codes "SCP") left) (values (codes "SCP") group)
+  pub attribute_count : AreCounts d.attribute_count (values (codes "ATC") left) (values (codes "ATC") group)
   pub point_count : is_arc_kind d.kind ≡ true
-      → AreTexts d.body_count (values (codes "PTC") left) (values (codes "PTC") group)
-  pub end_count : is_link d.kind ≡ true → AreTexts d.body_count (values (codes "FTC") left) (values (codes "FTC") group)
+      → AreCounts d.body_count (values (codes "PTC") left) (values (codes "PTC") group)
+  pub end_count : is_link d.kind ≡ true
+      → AreCounts d.body_count (values (codes "FTC") left) (values (codes "FTC") group)
   pub counted_points : has_points d.kind ≡ true
       → length (values (codes "COR") group) ≡ d.counted + length (values (codes "COR") left)
   pub counted_ends : is_link d.kind ≡ true

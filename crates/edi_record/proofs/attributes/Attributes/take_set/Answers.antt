@@ -1,11 +1,37 @@
-use Rattle.std.proofs.Common.{◌∙◌, ◌&&◌, refl, sym, ap, codes, is_some, Some}
-use Rattle.edi_line.specs.ZoneData.{has_code}
-use Rattle.edi_record.specs.inner.Stored.{kept_attributes}
-use Rattle.edi_record.proofs.AttributesStored.{set_only, set_taken, attributes_pass}
+use Rattle.std.proofs.Common.{◌≡◌, ◌∙◌, ◌+◌, ◌-◌, length, Some, is_some, refl, sym, ap, arith}
+use Rattle.edi_line.proofs.ZoneLists.{done_lengthened}
+use Rattle.edi_record.specs.inner.Stored.{kept_attributes, attribute_of}
+use Rattle.edi_record.proofs.AttributesStored.{set_taken, second_set_taken}
+use Rattle.edi_record.proofs.LastItems.{open_is, open_replaced, open_if_some}
 use Rattle.edi_record.proofs.attributes.Attributes.take_set.Goals as goal
 
-pub returns-in_default-clause-keeps : goal.returns-in_default-clause-keeps
-returns-in_default-clause-keeps c = λ done z left group e same. attributes_pass (kept_attributes c.args.self.now done) z left group (set_only z e).0 (set_only z e).1 (ap (λ o. is_some o && has_code (codes "TEX") z) c.in_default.is)
+pub returns-then-is_some-clause-keeps : goal.returns-then-is_some-clause-keeps
+returns-then-is_some-clause-keeps c = λ z left group e same.
+    let list = c.args.list.now in
+    let n = list.len - 1 in
+    let is_open = c.args.self.now.is_open in
+    let o = c.in-Some.last.now in
+    let last : n + 1 ≡ length list.items = omega (arith, list.ok.0, c.in-Some.ensures.variant.0 refl) in
+    let opened = open_if_some is_open list.items c.requires in
+    second_set_taken (kept_attributes c.args.self.now list.items) _ o z left group e (open_is is_open list.items n o opened last c.in-Some.ensures.value) (sym c.is_some.ensures ∙ c.if-is_some.true)
+    refl (open_replaced is_open list.items n o opened last)
 
 pub returns-clause-keeps : goal.returns-clause-keeps
-returns-clause-keeps c = λ done z left group e same. set_taken (kept_attributes c.args.self.now done) _ c.in-Some.opened _ z left group e c.in-Some.is (sym c.is_some.ensures ∙ c.if-is_some.false) refl refl refl refl (ap (λ t. Some t) (sym same)) refl
+returns-clause-keeps c = λ z left group e same.
+    let list = c.args.list.now in
+    let n = list.len - 1 in
+    let is_open = c.args.self.now.is_open in
+    let o = c.in-Some.last.now in
+    let new = attribute_of o (Some c.in_ok-from_slice.field-0) o.atv in
+    let last : n + 1 ≡ length list.items = omega (arith, list.ok.0, c.in-Some.ensures.variant.0 refl) in
+    let opened = open_if_some is_open list.items c.requires in
+    set_taken (kept_attributes c.args.self.now list.items) _ o new z left group e (open_is is_open list.items n o opened last c.in-Some.ensures.value) (sym c.is_some.ensures ∙ c.if-is_some.false)
+    refl (done_lengthened is_open list.items n new opened last) (open_replaced is_open list.items n new opened last) (ap (λ t. attribute_of o (Some t) o.atv) (c.in_ok-from_slice.ensures ∙ sym same))
+
+pub returns-clause-opens : goal.returns-clause-opens
+returns-clause-opens c = λ b.
+    let list = c.args.list.now in
+    let n = list.len - 1 in
+    let is_open = c.args.self.now.is_open in
+    let last : n + 1 ≡ length list.items = omega (arith, list.ok.0, c.in-Some.ensures.variant.0 refl) in
+    (b, ap is_some (open_replaced is_open list.items n _ (open_if_some is_open list.items c.requires) last))

@@ -1,4 +1,4 @@
-use Rattle.std.proofs.Common.{◌≡◌, ◌∙◌, ◌∷◌, [], List, false, not, is_some, refl, sym, ap, codes, Some, arith}
+use Rattle.std.proofs.Common.{◌≡◌, ◌∙◌, [], List, false, not, is_some, refl, ap, codes, Some, arith}
 use Rattle.std.proofs.lemmas.Bool.{or_from, or_left, or_right}
 use Rattle.edi_line.specs.ZoneData.{ZoneData}
 use Rattle.edi_record.specs.Records.{values}
@@ -16,16 +16,16 @@ returns-then-is_wrong-clause-least c = λ group k h.
     let d = kept c.args.self.now c.args.parts.now in
     let n1 = no_201 d.kind group k in
     let n2 : has_no_identifier group ≡ false = ap not (c.in-Some.ensures (values (codes "RID") group) h.identifier).0 in
-    let n3 : has_no_class group ≡ false = ap not (c.in-Some-class_pointer.ensures (values (codes "SCP") group) h.class).0 in
-    let n4 = c.in_ok-finish.ensures.sound group h.attributes in
+    let n3 : has_no_class group ≡ false = ap not (c.in-Some-class_of.ensures (values (codes "SCP") group) h.class).0 in
+    let n4 = c.in_ok-finish.ensures.sound c.args.parts.now.attributes.items group h.attributes in
     least_205 group n1 n2 n3 n4 (elim c.then-is_wrong.branch [
       | then-is_wrong-via-then-is_wrong w ↦
-          wrong_counts d.kind group c.finish.new.done.items c.len.result d.counted c.is_wrong.result _ k (c.in_ok-finish.ensures.states group h.attributes)
-          (omega (arith, c.len.ensures, c.finish.new.done.ok.0)) h.counted_points h.counted_ends (c.is_wrong.ensures (values (codes "ATC") group) h.attribute_count) refl
+          wrong_counts d.kind group c.args.parts.now.attributes.items c.len.result d.counted c.is_wrong.result _ k (c.in_ok-finish.ensures.states c.args.parts.now.attributes.items group h.attributes)
+          (omega (arith, c.len.ensures, c.args.parts.now.attributes.ok.0)) h.counted_points h.counted_ends (c.is_wrong.ensures (values (codes "ATC") group) h.attribute_count) refl
           ∙ or_left _ _ w.if-is_wrong.true
       | then-is_wrong-via-else-is_wrong+then-is_body_wrong w ↦
-          wrong_counts d.kind group c.finish.new.done.items c.len.result d.counted c.is_wrong.result w.is_body_wrong.result k (c.in_ok-finish.ensures.states group h.attributes)
-          (omega (arith, c.len.ensures, c.finish.new.done.ok.0)) h.counted_points h.counted_ends (c.is_wrong.ensures (values (codes "ATC") group) h.attribute_count) (w.is_body_wrong.ensures (values (codes "PTC") group) (values (codes "FTC") group) h.point_count h.end_count)
+          wrong_counts d.kind group c.args.parts.now.attributes.items c.len.result d.counted c.is_wrong.result w.is_body_wrong.result k (c.in_ok-finish.ensures.states c.args.parts.now.attributes.items group h.attributes)
+          (omega (arith, c.len.ensures, c.args.parts.now.attributes.ok.0)) h.counted_points h.counted_ends (c.is_wrong.ensures (values (codes "ATC") group) h.attribute_count) (w.is_body_wrong.ensures (values (codes "PTC") group) (values (codes "FTC") group) h.point_count h.end_count)
           ∙ or_right _ _ w.if-is_body_wrong.true
     ])
 
@@ -35,11 +35,11 @@ returns-in_err-finish-2-clause-least c =
     err_kept _ c.in_err-finish-2.field-0.0 (λ fault. (group : List ZoneData) → kind_in group ≡ Some d.kind → StoresRecord d [] group → IsGroupRefusal group fault) c.from_residual-in_err-finish-2.ensures.1 (λ group k h.
     let n1 = no_201 d.kind group k in
     let n2 : has_no_identifier group ≡ false = ap not (c.in-Some.ensures (values (codes "RID") group) h.identifier).0 in
-    let n3 : has_no_class group ≡ false = ap not (c.in-Some-class_pointer.ensures (values (codes "SCP") group) h.class).0 in
-    let n4 = c.in_ok-finish.ensures.sound group h.attributes in
+    let n3 : has_no_class group ≡ false = ap not (c.in-Some-class_of.ensures (values (codes "SCP") group) h.class).0 in
+    let n4 = c.in_ok-finish.ensures.sound c.args.parts.now.attributes.items group h.attributes in
     let n5 =
-    wrong_counts d.kind group c.finish.new.done.items c.len.result d.counted c.is_wrong.result c.is_body_wrong.result k (c.in_ok-finish.ensures.states group h.attributes)
-    (omega (arith, c.len.ensures, c.finish.new.done.ok.0)) h.counted_points h.counted_ends (c.is_wrong.ensures (values (codes "ATC") group) h.attribute_count)
+    wrong_counts d.kind group c.args.parts.now.attributes.items c.len.result d.counted c.is_wrong.result c.is_body_wrong.result k (c.in_ok-finish.ensures.states c.args.parts.now.attributes.items group h.attributes)
+    (omega (arith, c.len.ensures, c.args.parts.now.attributes.ok.0)) h.counted_points h.counted_ends (c.is_wrong.ensures (values (codes "ATC") group) h.attribute_count)
     (c.is_body_wrong.ensures (values (codes "PTC") group) (values (codes "FTC") group) h.point_count h.end_count)
     ∙ or_from c.is_wrong.result c.is_body_wrong.result c.if-is_wrong.false c.if-is_body_wrong.false in
     breach_least 206 (has_bad_point group) group c.in_err-finish-2.field-0.0 (least_206 group n1 n2 n3 n4 n5) (c.in_err-finish-2.ensures.breach group k h.points))
@@ -50,11 +50,11 @@ returns-in_err-finish-3-clause-least c =
     err_kept _ c.in_err-finish-3.field-0.0 (λ fault. (group : List ZoneData) → kind_in group ≡ Some d.kind → StoresRecord d [] group → IsGroupRefusal group fault) c.from_residual-in_err-finish-3.ensures.1 (λ group k h.
     let n1 = no_201 d.kind group k in
     let n2 : has_no_identifier group ≡ false = ap not (c.in-Some.ensures (values (codes "RID") group) h.identifier).0 in
-    let n3 : has_no_class group ≡ false = ap not (c.in-Some-class_pointer.ensures (values (codes "SCP") group) h.class).0 in
-    let n4 = c.in_ok-finish.ensures.sound group h.attributes in
+    let n3 : has_no_class group ≡ false = ap not (c.in-Some-class_of.ensures (values (codes "SCP") group) h.class).0 in
+    let n4 = c.in_ok-finish.ensures.sound c.args.parts.now.attributes.items group h.attributes in
     let n5 =
-    wrong_counts d.kind group c.finish.new.done.items c.len.result d.counted c.is_wrong.result c.is_body_wrong.result k (c.in_ok-finish.ensures.states group h.attributes)
-    (omega (arith, c.len.ensures, c.finish.new.done.ok.0)) h.counted_points h.counted_ends (c.is_wrong.ensures (values (codes "ATC") group) h.attribute_count)
+    wrong_counts d.kind group c.args.parts.now.attributes.items c.len.result d.counted c.is_wrong.result c.is_body_wrong.result k (c.in_ok-finish.ensures.states c.args.parts.now.attributes.items group h.attributes)
+    (omega (arith, c.len.ensures, c.args.parts.now.attributes.ok.0)) h.counted_points h.counted_ends (c.is_wrong.ensures (values (codes "ATC") group) h.attribute_count)
     (c.is_body_wrong.ensures (values (codes "PTC") group) (values (codes "FTC") group) h.point_count h.end_count)
     ∙ or_from c.is_wrong.result c.is_body_wrong.result c.if-is_wrong.false c.if-is_body_wrong.false in
     let n6 = c.in_ok-finish-2.ensures.sound group k h.points in
@@ -66,11 +66,11 @@ returns-in_err-finish-4-clause-least c =
     err_kept _ c.in_err-finish-4.field-0.0 (λ fault. (group : List ZoneData) → kind_in group ≡ Some d.kind → StoresRecord d [] group → IsGroupRefusal group fault) c.from_residual-in_err-finish-4.ensures.1 (λ group k h.
     let n1 = no_201 d.kind group k in
     let n2 : has_no_identifier group ≡ false = ap not (c.in-Some.ensures (values (codes "RID") group) h.identifier).0 in
-    let n3 : has_no_class group ≡ false = ap not (c.in-Some-class_pointer.ensures (values (codes "SCP") group) h.class).0 in
-    let n4 = c.in_ok-finish.ensures.sound group h.attributes in
+    let n3 : has_no_class group ≡ false = ap not (c.in-Some-class_of.ensures (values (codes "SCP") group) h.class).0 in
+    let n4 = c.in_ok-finish.ensures.sound c.args.parts.now.attributes.items group h.attributes in
     let n5 =
-    wrong_counts d.kind group c.finish.new.done.items c.len.result d.counted c.is_wrong.result c.is_body_wrong.result k (c.in_ok-finish.ensures.states group h.attributes)
-    (omega (arith, c.len.ensures, c.finish.new.done.ok.0)) h.counted_points h.counted_ends (c.is_wrong.ensures (values (codes "ATC") group) h.attribute_count)
+    wrong_counts d.kind group c.args.parts.now.attributes.items c.len.result d.counted c.is_wrong.result c.is_body_wrong.result k (c.in_ok-finish.ensures.states c.args.parts.now.attributes.items group h.attributes)
+    (omega (arith, c.len.ensures, c.args.parts.now.attributes.ok.0)) h.counted_points h.counted_ends (c.is_wrong.ensures (values (codes "ATC") group) h.attribute_count)
     (c.is_body_wrong.ensures (values (codes "PTC") group) (values (codes "FTC") group) h.point_count h.end_count)
     ∙ or_from c.is_wrong.result c.is_body_wrong.result c.if-is_wrong.false c.if-is_body_wrong.false in
     let n6 = c.in_ok-finish-2.ensures.sound group k h.points in
@@ -82,11 +82,11 @@ returns-clause-sound c = λ group k h.
     let d = kept c.args.self.now c.args.parts.now in
     let n1 = no_201 d.kind group k in
     let n2 : has_no_identifier group ≡ false = ap not (c.in-Some.ensures (values (codes "RID") group) h.identifier).0 in
-    let n3 : has_no_class group ≡ false = ap not (c.in-Some-class_pointer.ensures (values (codes "SCP") group) h.class).0 in
-    let n4 = c.in_ok-finish.ensures.sound group h.attributes in
+    let n3 : has_no_class group ≡ false = ap not (c.in-Some-class_of.ensures (values (codes "SCP") group) h.class).0 in
+    let n4 = c.in_ok-finish.ensures.sound c.args.parts.now.attributes.items group h.attributes in
     let n5 =
-    wrong_counts d.kind group c.finish.new.done.items c.len.result d.counted c.is_wrong.result c.is_body_wrong.result k (c.in_ok-finish.ensures.states group h.attributes)
-    (omega (arith, c.len.ensures, c.finish.new.done.ok.0)) h.counted_points h.counted_ends (c.is_wrong.ensures (values (codes "ATC") group) h.attribute_count)
+    wrong_counts d.kind group c.args.parts.now.attributes.items c.len.result d.counted c.is_wrong.result c.is_body_wrong.result k (c.in_ok-finish.ensures.states c.args.parts.now.attributes.items group h.attributes)
+    (omega (arith, c.len.ensures, c.args.parts.now.attributes.ok.0)) h.counted_points h.counted_ends (c.is_wrong.ensures (values (codes "ATC") group) h.attribute_count)
     (c.is_body_wrong.ensures (values (codes "PTC") group) (values (codes "FTC") group) h.point_count h.end_count)
     ∙ or_from c.is_wrong.result c.is_body_wrong.result c.if-is_wrong.false c.if-is_body_wrong.false in
     let n6 = c.in_ok-finish-2.ensures.sound group k h.points in
@@ -98,10 +98,10 @@ returns-clause-states c = λ group one k h.
     let d = kept c.args.self.now c.args.parts.now in
     record {
       type = type_is (values (codes "RTY") group) d.kind one k;
-      rid = (c.in-Some.ensures (values (codes "RID") group) h.identifier).1 ∙ ap (λ t. t ∷ []) (sym c.in_ok-of.ensures);
-      scp = (c.in-Some-class_pointer.ensures (values (codes "SCP") group) h.class).1 ∙ ap (λ n. Some n ∷ []) (sym c.in_ok-class.ensures);
+      rid = (c.in-Some.ensures (values (codes "RID") group) h.identifier).1;
+      scp = (c.in-Some-class_of.ensures (values (codes "SCP") group) h.class).1;
       points = c.in_ok-finish-2.ensures.states group h.points;
       ends = c.in_ok-finish-3.ensures.states group h.ends;
-      attributes = c.in_ok-finish.ensures.states group h.attributes;
+      attributes = c.in_ok-finish.ensures.states c.args.parts.now.attributes.items group h.attributes;
       extras = c.in_ok-finish-4.ensures.states d.kind (is_some d.attributes.opened) c.args.parts.now.extras.items group (h.extras c.in_ok-finish.ensures.unbroken);
     }

@@ -14,6 +14,6 @@ returns-clause-keeps c = λ parts group none. record {
   attributes = subst (λ l. StoresAttributes (kept_attributes c.new.result l) group group) (sym none.attributes) (c.new.ensures.keeps group);
   points = λ k. subst (λ l. StoresPoints (kept_points c.new-2.result l) group group) (sym none.points) (c.new-2.ensures group);
   ends = λ k. subst (λ l. StoresEnds (kept_ends c.new-3.result l) group group) (sym none.ends) (c.new-3.ensures group);
-  extras = λ b. subst (λ o. StoresExtras c.args.kind o (kept_extras c.new-4.result parts.extras.items) group group) (sym c.new.ensures.closed)
+  extras = λ b. subst (λ o. StoresExtras c.args.kind o (kept_extras c.new-4.result parts.extras.items) group group) (sym (c.new.ensures.closed parts.attributes.items))
       (subst (λ l. StoresExtras c.args.kind false (kept_extras c.new-4.result l) group group) (sym none.extras) (c.new-4.ensures c.args.kind group));
 }

@@ -2,19 +2,19 @@ use Rattle.std.proofs.Common.{◌≡◌, ◌∙◌, ◌&&◌, true, false, refl,
 use Rattle.edi_line.specs.ZoneData.{entry}
 use Rattle.edi_record.specs.Records.{values}
 use Rattle.edi_record.specs.declared.role.ZoneRole.TheVariants.{Identifier, Class, AttributeCount, AttributeClass, AttributeSet, AttributeValue, BodyCount, Position, EndPointer, EndSense, Skipped, Unknown}
-use Rattle.edi_record.specs.inner.Stored.{kept, kept_attributes, kept_extras}
+use Rattle.edi_record.specs.inner.Stored.{AreTexts, AreCounts, AreClassTexts, kept, kept_attributes, kept_extras}
 use Rattle.edi_record.proofs.RecordStored.{text_taken, count_taken, others, has, no_set, extras_stay, extras_move, extras_beside_set, set_is_extra, extra_kept, body_count_taken, skipped, unknown_taken}
 use Rattle.edi_record.proofs.Roles.{code_of, place_known, link_known, no_link}
 use Rattle.edi_record.proofs.draft.Draft.take.Goals as goal
 
-pub returns-in-Identifier-clause-keeps : goal.returns-in-Identifier-clause-keeps
-returns-in-Identifier-clause-keeps c = λ left group h.
+pub returns-in_ok-take_identifier-in-Identifier-clause-keeps : goal.returns-in_ok-take_identifier-in-Identifier-clause-keeps
+returns-in_ok-take_identifier-in-Identifier-clause-keeps c = λ left group h.
     let d = kept c.args.self.now c.args.parts.now in
     let z = entry c.args.zone.now in
     let is : z.code ≡ codes "RID" = code_of d.kind z.code Identifier c.in-Identifier.ensures in
     let o = others (codes "RID") d z left group is h in
     record {
-      identifier = text_taken d.identifier c.take.new.self (codes "RID") c.as_slice-text.result.now z left (values (codes "RID") group) (has (codes "RID") z is) c.as_slice-text.ensures.value c.take.ensures h.identifier;
+      identifier = text_taken AreTexts d.identifier c.take_identifier.new.stored (codes "RID") c.as_slice-text.result.now z left (values (codes "RID") group) (has (codes "RID") z is) c.as_slice-text.ensures.value c.in_ok-take_identifier-in-Identifier.ensures h.identifier;
       class = o.class refl;
       attribute_count = o.attribute_count refl;
       point_count = o.point_count refl;
@@ -27,15 +27,15 @@ returns-in-Identifier-clause-keeps c = λ left group h.
       extras = extras_stay (codes "RID") d z left group is refl refl (o.extras refl);
     }
 
-pub returns-in-Class-clause-keeps : goal.returns-in-Class-clause-keeps
-returns-in-Class-clause-keeps c = λ left group h.
+pub returns-in_ok-take_class-in-Class-clause-keeps : goal.returns-in_ok-take_class-in-Class-clause-keeps
+returns-in_ok-take_class-in-Class-clause-keeps c = λ left group h.
     let d = kept c.args.self.now c.args.parts.now in
     let z = entry c.args.zone.now in
     let is : z.code ≡ codes "SCP" = code_of d.kind z.code Class c.in-Class.ensures in
     let o = others (codes "SCP") d z left group is h in
     record {
       identifier = o.identifier refl;
-      class = text_taken d.class c.take-in-Class.new.self (codes "SCP") c.as_slice-text.result.now z left (values (codes "SCP") group) (has (codes "SCP") z is) c.as_slice-text.ensures.value c.take-in-Class.ensures h.class;
+      class = text_taken AreClassTexts d.class c.take_class.new.stored (codes "SCP") c.as_slice-text.result.now z left (values (codes "SCP") group) (has (codes "SCP") z is) c.as_slice-text.ensures.value c.in_ok-take_class-in-Class.ensures h.class;
       attribute_count = o.attribute_count refl;
       point_count = o.point_count refl;
       end_count = o.end_count refl;
@@ -56,7 +56,7 @@ returns-in-AttributeCount-clause-keeps c = λ left group h.
     record {
       identifier = o.identifier refl;
       class = o.class refl;
-      attribute_count = text_taken d.attribute_count c.take-in-AttributeCount.new.self (codes "ATC") c.as_slice-text.result.now z left (values (codes "ATC") group) (has (codes "ATC") z is) c.as_slice-text.ensures.value c.take-in-AttributeCount.ensures h.attribute_count;
+      attribute_count = text_taken AreCounts d.attribute_count c.take_count.new.stored (codes "ATC") c.as_slice-text.result.now z left (values (codes "ATC") group) (has (codes "ATC") z is) c.as_slice-text.ensures.value c.take_count.ensures h.attribute_count;
       point_count = o.point_count refl;
       end_count = o.end_count refl;
       counted_points = o.counted_points refl;
@@ -84,7 +84,7 @@ returns-in_ok-take_class-in-AttributeClass-clause-keeps c = λ left group h.
       attributes = c.in_ok-take_class-in-AttributeClass.ensures.keeps z left group (has (codes "ATP") z is) (sym c.as_slice-text.ensures.value) h.attributes;
       points = o.points refl;
       ends = o.ends refl refl;
-      extras = extras_move true (codes "ATP") d (kept_attributes c.take_class.new.self c.take_class.new.done.items) z left group is refl c.in_ok-take_class-in-AttributeClass.ensures.opens (o.extras refl);
+      extras = extras_move true (codes "ATP") d (kept_attributes c.take_class-in-AttributeClass.new.self c.take_class-in-AttributeClass.new.list.items) z left group is refl c.in_ok-take_class-in-AttributeClass.ensures.opens (o.extras refl);
     }
 
 pub returns-in_ok-take_value-in-AttributeValue-clause-keeps : goal.returns-in_ok-take_value-in-AttributeValue-clause-keeps
@@ -104,11 +104,11 @@ returns-in_ok-take_value-in-AttributeValue-clause-keeps c = λ left group h.
       attributes = c.in_ok-take_value-in-AttributeValue.ensures.keeps z left group (has (codes "ATV") z is) (sym c.as_slice-text.ensures.value) h.attributes;
       points = o.points refl;
       ends = o.ends refl refl;
-      extras = extras_move false (codes "ATV") d (kept_attributes c.take_value.new.self c.take_value.new.done.items) z left group is refl c.in_ok-take_value-in-AttributeValue.ensures.closes (o.extras refl);
+      extras = extras_move false (codes "ATV") d (kept_attributes c.take_value.new.self c.take_value.new.list.items) z left group is refl c.in_ok-take_value-in-AttributeValue.ensures.closes (o.extras refl);
     }
 
-pub returns-in-AttributeSet-clause-keeps : goal.returns-in-AttributeSet-clause-keeps
-returns-in-AttributeSet-clause-keeps c = λ left group h.
+pub returns-in_ok-take_set-in-AttributeSet-clause-keeps : goal.returns-in_ok-take_set-in-AttributeSet-clause-keeps
+returns-in_ok-take_set-in-AttributeSet-clause-keeps c = λ left group h.
     let d = kept c.args.self.now c.args.parts.now in
     let z = entry c.args.zone.now in
     let is : z.code ≡ codes "TEX" = code_of d.kind z.code AttributeSet c.in-AttributeSet.ensures in
@@ -121,10 +121,10 @@ returns-in-AttributeSet-clause-keeps c = λ left group h.
       end_count = o.end_count refl;
       counted_points = o.counted_points refl;
       counted_ends = o.counted_ends refl;
-      attributes = c.take_set.ensures.keeps c.args.parts.now.attributes.items z left group (has (codes "TEX") z is) (sym c.as_slice-text.ensures.value) h.attributes;
+      attributes = c.in_ok-take_set-in-AttributeSet.ensures.keeps z left group (has (codes "TEX") z is) (sym c.as_slice-text.ensures.value) h.attributes;
       points = o.points refl;
       ends = o.ends refl refl;
-      extras = extras_beside_set d (kept_attributes c.take_set.new.self c.args.parts.now.attributes.items) z left group is (sym c.is_open.ensures ∙ c.if-is_open.true) c.take_set.ensures.opens h.extras;
+      extras = extras_beside_set d (kept_attributes c.take_set.new.self c.take_set.new.list.items) z left group is (sym c.is_open.ensures ∙ c.if-is_open.true) c.in_ok-take_set-in-AttributeSet.ensures.opens h.extras;
     }
 
 pub returns-in_ok-take-in-AttributeSet-2-clause-keeps : goal.returns-in_ok-take-in-AttributeSet-2-clause-keeps
@@ -145,7 +145,7 @@ returns-in_ok-take-in-AttributeSet-2-clause-keeps c = λ left group h.
       attributes = o.attributes refl refl (ap (λ b. b && bytes_eq (codes "TEX") (codes "TEX")) none);
       points = o.points refl;
       ends = o.ends refl refl;
-      extras = extra_kept (codes "TEX") d (kept_extras c.take-in-AttributeSet-2.new.self c.take-in-AttributeSet-2.new.list.items) z left group is refl refl (set_is_extra d.kind (is_some d.attributes.opened) z is none) c.in_ok-take-in-AttributeSet-2.ensures h.extras;
+      extras = extra_kept (codes "TEX") d (kept_extras c.take.new.self c.take.new.list.items) z left group is refl refl (set_is_extra d.kind (is_some d.attributes.opened) z is none) c.in_ok-take-in-AttributeSet-2.ensures h.extras;
     }
 
 pub returns-in_ok-take-in-Position-clause-keeps : goal.returns-in_ok-take-in-Position-clause-keeps
@@ -190,8 +190,8 @@ returns-in_ok-take_pointer-in-EndPointer-clause-keeps c = λ left group h.
       extras = extras_stay (codes "FTP") d z left group is refl refl (o.extras (link_known d.kind (codes "FTP") link.0 refl));
     }
 
-pub returns-in-EndSense-clause-keeps : goal.returns-in-EndSense-clause-keeps
-returns-in-EndSense-clause-keeps c = λ left group h.
+pub returns-in_ok-take_sense-in-EndSense-clause-keeps : goal.returns-in_ok-take_sense-in-EndSense-clause-keeps
+returns-in_ok-take_sense-in-EndSense-clause-keeps c = λ left group h.
     let d = kept c.args.self.now c.args.parts.now in
     let z = entry c.args.zone.now in
     let link = code_of d.kind z.code EndSense c.in-EndSense.ensures in
@@ -207,7 +207,7 @@ returns-in-EndSense-clause-keeps c = λ left group h.
       counted_ends = o.counted_ends refl;
       attributes = o.attributes refl refl (no_set d);
       points = o.points refl;
-      ends = λ k. c.take_sense.ensures c.args.parts.now.ends.items z left group (has (codes "SNS") z is) (sym c.as_slice-text.ensures.value) (h.ends k);
+      ends = λ k. c.in_ok-take_sense-in-EndSense.ensures z left group (has (codes "SNS") z is) (sym c.as_slice-text.ensures.value) (h.ends k);
       extras = extras_stay (codes "SNS") d z left group is refl refl (o.extras (link_known d.kind (codes "SNS") link.0 refl));
     }
 
@@ -215,7 +215,7 @@ pub returns-in-BodyCount-clause-keeps : goal.returns-in-BodyCount-clause-keeps
 returns-in-BodyCount-clause-keeps c = λ left group h.
     let d = kept c.args.self.now c.args.parts.now in
     let z = entry c.args.zone.now in
-    body_count_taken d c.take-in-BodyCount.new.self z left group c.as_slice-text.result.now (code_of d.kind z.code BodyCount c.in-BodyCount.ensures) c.as_slice-text.ensures.value c.take-in-BodyCount.ensures h
+    body_count_taken d c.take_count-in-BodyCount.new.stored z left group c.as_slice-text.result.now (code_of d.kind z.code BodyCount c.in-BodyCount.ensures) c.as_slice-text.ensures.value c.take_count-in-BodyCount.ensures h
 
 pub returns-in-Skipped-clause-keeps : goal.returns-in-Skipped-clause-keeps
 returns-in-Skipped-clause-keeps c = λ left group h.
