@@ -1,23 +1,32 @@
 -- The ends of links, as they come.
-use Rattle.std.proofs.Common.{◌≡◌, ◌≢◌, ◌⊎◌, ◌∙◌, ◌↔◌, ◌++◌, ℕ, Bool, true, false, IsTrue, is_some, not, List, [], ◌∷◌, MatchOption, Option, Some, None, inl, inr, sym, ap, subst, append_assoc, append-nil, get_or, arith}
+use Rattle.std.proofs.Common.{◌≡◌, ◌≢◌, ◌⊎◌, ◌∙◌, ◌↔◌, ◌++◌, ℕ, Bool, true, false, IsTrue, is_some, not, ◌&&◌, List, [], ◌∷◌, map, codes, bytes_eq, if◌then◌else◌, refl, MatchOption, Option, Some, None, inl, inr, sym, ap, subst, append_assoc, append-nil, get_or, arith}
 use Rattle.std.specs.Global.{Vec}
 use Rattle.std.specs.List.{Any, Contains}
 use Rattle.std.proofs.lemmas.List.Elements.{All-cons, All-contains, All-nil, All-push, Contains-append_left, Contains-append_right, Contains-push, Contains-push_cases}
-use Rattle.edi_line.specs.ZoneData.{ZoneData, first}
+use Rattle.std.specs.List.{filter}
+use Rattle.std.proofs.lemmas.List.{map-append}
+use Rattle.std.proofs.lemmas.List.Elements.{filter-append}
+use Rattle.std.proofs.lemmas.Slice.Eq.{bytes_eq-Decides}
+use Rattle.edi_line.specs.Groups.{IsOneRecord}
+use Rattle.edi_line.specs.ZoneData.{ZoneData, first, has_code}
 use Rattle.edi_line.specs.LineRules.{BreaksLineRule, IsZonesOf}
 use Rattle.edi_line.specs.Refusal.{IsUnbroken}
-use Rattle.edi_line.specs.Zones.{groups_of}
+use Rattle.edi_line.specs.Zones.{begins_group, groups_of}
 use Rattle.edi_line.proofs.ZonesSaid.{zones_of_one}
 use Rattle.std.proofs.lemmas.Grind.{flat_map-append}
 use Rattle.std.proofs.lemmas.List.Quantifiers.{Any-push}
+use Rattle.edi_record.specs.Records.{values}
 use Rattle.edi_record.specs.Texts.{IsPointer, PointerText, shown}
+use Rattle.edi_record.specs.Titles.{IsTitleOf, TitleData}
 use Rattle.edi_record.specs.declared.pointer.Pointer.{Pointer}
 use Rattle.edi_record.proofs.TextParts.{pointer_one}
 use Rattle.edi_explain.specs.AstrayZones.{AreApart, IsNamedBy}
+use Rattle.edi_explain.specs.BreakingZones.{is_typed}
 use Rattle.edi_explain.specs.Elsewhere.{AreStrayEnds, AreTogether, HasNamed, HasNamedAmong, HasStrayEnds, ends_of_record, link_ends}
 use Rattle.edi_explain.specs.declared.elsewhere.StrayEnds.{StrayEnds}
-use Rattle.edi_explain.specs.inner.Elsewhere.{AreEndsWithStray, EndsAre, IsSoughtName, name_signature, sign_zone}
+use Rattle.edi_explain.specs.inner.Elsewhere.{AreEndsWithStray, EndsAre, HoldsLinkEnds, IsSoughtName, name_signature, sign_zone}
 use Rattle.edi_explain.specs.declared.elsewhere.LinkEnds.{LinkEnds}
+use Rattle.edi_explain.specs.declared.elsewhere.SoughtName.{SoughtName}
 
 -- no pointer is apart from itself
 pub not_apart_itself : (text : List ℕ) → ¬ (AreApart text text)
@@ -140,16 +149,115 @@ module _ (p : PointerText) (text : List ℕ) (q : PointerText) (h : IsPointer te
 ends_more : (come : List (List ZoneData)) (g : List ZoneData) → link_ends (come ++ g ∷ []) ≡ link_ends come ++ ends_of_record g
 ends_more come g = flat_map-append ends_of_record come (g ∷ []) ∙ ap (λ l. link_ends come ++ l) (append-nil (ends_of_record g))
 
+-- ---- the ends of a link, zone by zone
+
+values_behind : (group : List ZoneData) (z : ZoneData) → values (codes "FTP") (group ++ z ∷ []) ≡ values (codes "FTP") group ++ values (codes "FTP") (z ∷ [])
+values_behind group z =
+    ap (map (λ x. x.value)) (filter-append (has_code (codes "FTP")) group (z ∷ [])) ∙ map-append (λ x. x.value) (filter (has_code (codes "FTP")) group) (filter (has_code (codes "FTP")) (z ∷ []))
+
+typed_still : (rty : List ℕ) (group : List ZoneData) (z : ZoneData) → IsOneRecord group → is_typed rty (group ++ z ∷ []) ≡ is_typed rty group
+typed_still rty group z one = ap (λ g. is_typed rty (g ++ z ∷ [])) one.joined ∙ ap (is_typed rty) (sym one.joined)
+
+none_in_head : (head : ZoneData) → begins_group head ≡ true → values (codes "FTP") (head ∷ []) ≡ []
+none_in_head head begins =
+    let is : head.code ≡ codes "RTY" = (bytes_eq-Decides head.code (codes "RTY")).0 begins in
+    let other : has_code (codes "FTP") head ≡ false = ap (λ c. bytes_eq c (codes "FTP")) is in
+    rw other refl
+
+-- a record begins without ends
+pub begun_ends : (head : ZoneData) → begins_group head ≡ true → ends_of_record (head ∷ []) ≡ []
+begun_ends head begins = go (bytes_eq head.value (codes "LNK")) (values (codes "FTP") (head ∷ [])) (none_in_head head begins)
+  where
+    go : (t : Bool) (vs : List (List ℕ)) → vs ≡ [] → (if t then vs else []) ≡ []
+    go true vs e = e
+    go false vs e = refl
+
+pub end_more : (group : List ZoneData) (z : ZoneData) → IsOneRecord group → is_typed (codes "LNK") group ≡ true → has_code (codes "FTP") z ≡ true
+    → ends_of_record (group ++ z ∷ []) ≡ ends_of_record group ++ z.value ∷ []
+end_more group z one link code =
+    let last : values (codes "FTP") (z ∷ []) ≡ z.value ∷ [] = rw code refl in
+    let still = typed_still (codes "LNK") group z one in
+    ap (λ t. if t then values (codes "FTP") (group ++ z ∷ []) else []) (still ∙ link)
+    ∙ (values_behind group z ∙ ap (λ vs. values (codes "FTP") group ++ vs) last)
+    ∙ ap (λ vs. vs ++ z.value ∷ []) (sym (ap (λ t. if t then values (codes "FTP") group else []) link))
+
+pub no_end : (group : List ZoneData) (z : ZoneData) → IsOneRecord group → is_typed (codes "LNK") group && has_code (codes "FTP") z ≡ false
+    → ends_of_record (group ++ z ∷ []) ≡ ends_of_record group
+no_end group z one none = go (is_typed (codes "LNK") group) (has_code (codes "FTP") z) refl refl none
+  where
+    go : (t c : Bool) → is_typed (codes "LNK") group ≡ t → has_code (codes "FTP") z ≡ c → t && c ≡ false → ends_of_record (group ++ z ∷ []) ≡ ends_of_record group
+    go true true t_is c_is e = absurd cc
+    go true false t_is c_is e =
+        let last : values (codes "FTP") (z ∷ []) ≡ [] = rw c_is refl in
+        ap (λ t. if t then values (codes "FTP") (group ++ z ∷ []) else []) (typed_still (codes "LNK") group z one ∙ t_is)
+        ∙ (values_behind group z ∙ ap (λ vs. values (codes "FTP") group ++ vs) last ∙ append-nil (values (codes "FTP") group))
+        ∙ sym (ap (λ t. if t then values (codes "FTP") group else []) t_is)
+    go false c t_is c_is e =
+        ap (λ t. if t then values (codes "FTP") (group ++ z ∷ []) else []) (typed_still (codes "LNK") group z one ∙ t_is)
+        ∙ sym (ap (λ t. if t then values (codes "FTP") group else []) t_is)
+
+-- a record has begun
+pub holds_begun : (groups : List (List ZoneData)) (head : ZoneData) (home stray : Option (Vec ℕ)) (was is : Bool) → begins_group head ≡ true → is ≡ is_typed (codes "LNK") (head ∷ [])
+    → HoldsLinkEnds groups [] (record { home = home; stray = stray; is_link = was }) → HoldsLinkEnds groups (head ∷ []) (record { home = home; stray = stray; is_link = is })
+holds_begun groups head home stray was is begins typed h = record {
+  ends = subst (λ l. EndsAre (link_ends groups ++ l) home stray) (sym (begun_ends head begins)) h.ends;
+  is_link = λ one. typed;
+}
+
+-- a zone more, which may be an end
+pub holds_end : (groups : List (List ZoneData)) (group : List ZoneData) (z : ZoneData) (old new : LinkEnds) → IsOneRecord group → old.is_link ≡ true → has_code (codes "FTP") z ≡ true → new.is_link ≡ old.is_link
+    → ((ends : List (List ℕ)) → AreEndsWithStray ends old → AreEndsWithStray (ends ++ z.value ∷ []) new) → HoldsLinkEnds groups group old → HoldsLinkEnds groups (group ++ z ∷ []) new
+holds_end groups group z old new one link code same taken h =
+    let typed = sym (h.is_link one) ∙ link in
+    record {
+      ends = subst (λ l. AreEndsWithStray l new)
+          (append_assoc (link_ends groups) (ends_of_record group) (z.value ∷ []) ∙ ap (λ l. link_ends groups ++ l) (sym (end_more group z one typed code)))
+          (taken (link_ends groups ++ ends_of_record group) h.ends);
+      is_link = λ more. same ∙ h.is_link one ∙ sym (typed_still (codes "LNK") group z one);
+    }
+
+pub holds_other : (groups : List (List ZoneData)) (group : List ZoneData) (z : ZoneData) (s : LinkEnds) → IsOneRecord group → s.is_link && has_code (codes "FTP") z ≡ false
+    → HoldsLinkEnds groups group s → HoldsLinkEnds groups (group ++ z ∷ []) s
+holds_other groups group z s one none h = record {
+  ends = subst (λ l. AreEndsWithStray (link_ends groups ++ l) s) (sym (no_end group z one (ap (λ t. t && has_code (codes "FTP") z) (sym (h.is_link one)) ∙ none))) h.ends;
+  is_link = λ more. h.is_link one ∙ sym (typed_still (codes "LNK") group z one);
+}
+
+-- the record is whole
+pub holds_whole : (groups : List (List ZoneData)) (group : List ZoneData) (s : LinkEnds) → HoldsLinkEnds groups group s → HoldsLinkEnds (groups ++ group ∷ []) [] s
+holds_whole groups group s h = record {
+  ends = subst (λ l. AreEndsWithStray l s) (sym (append-nil (link_ends (groups ++ group ∷ [])) ∙ ends_more groups group)) h.ends;
+  is_link = λ none. absurd (no_record none);
+}
+  where
+    no_record : IsOneRecord [] → ⊥
+    no_record none = let e = none.joined in absurd cc
+
+pub at_first : (s : LinkEnds) → AreEndsWithStray [] s → HoldsLinkEnds [] [] s
+at_first s h = record { ends = h; is_link = λ none. let e = none.joined in absurd cc }
+
+-- ---- the record that is coming, by what it says of itself
+
+pub named_by_title : (p : PointerText) (group : List ZoneData) (title : TitleData) (t : Bool) → IsTitleOf group title → IsTrue t ↔ ((title.rty ≡ p.rty) × (title.rid ≡ Some p.rid)) → IsTrue t ↔ IsNamedBy p group
+named_by_title p group title t is k = (
+  λ i. (typed (k.0 i).0, sym is.rid ∙ (k.0 i).1),
+  λ n. k.1 (is.rty ∙ (bytes_eq-Decides is.head.value p.rty).0 (sym (ap (is_typed p.rty) is.is) ∙ n.0), is.rid ∙ n.1),
+)
+  where
+    typed : title.rty ≡ p.rty → is_typed p.rty group ≡ true
+    typed e = ap (is_typed p.rty) is.is ∙ (bytes_eq-Decides is.head.value p.rty).1 (sym is.rty ∙ e)
+
 -- one record more
-module _ (pointer : Pointer) (ends later : LinkEnds) (g : List ZoneData) (taken : (list : List (List ℕ)) → AreEndsWithStray list ends → AreEndsWithStray (list ++ ends_of_record g) later) (was is : Bool) where
+module _ (pointer : Pointer) (ends : LinkEnds) (title : TitleData) (g : List ZoneData) (was is : Bool) where
   pub take_named : (IsTrue is ↔ (IsTrue was ⊎ IsNamedBy (shown pointer) g)) → (groups : List (List ZoneData))
-      → IsSoughtName (record { pointer = pointer; ends = ends; is_there = was }) groups
-      → IsSoughtName (record { pointer = pointer; ends = later; is_there = is }) (groups ++ g ∷ [])
+      → IsSoughtName (record { pointer = pointer; ends = ends; title = title; is_there = was }) groups g
+      → IsSoughtName (record { pointer = pointer; ends = ends; title = title; is_there = is }) (groups ++ g ∷ []) []
   take_named k [] h = absurd h
   take_named k (sign ∷ come) h = (
     h.0,
-    subst (λ l. AreEndsWithStray l later) (sym (ends_more come g)) (taken (link_ends come) h.1),
+    holds_whole come g ends h.1,
     (λ i. into (k.0 i), λ a. k.1 (from (any_cases (IsNamedBy (shown pointer)) come g a))),
+    λ none. let e = none.joined in absurd cc,
   )
     where
       into : IsTrue was ⊎ IsNamedBy (shown pointer) g → Any (IsNamedBy (shown pointer)) (come ++ g ∷ [])
@@ -159,6 +267,24 @@ module _ (pointer : Pointer) (ends later : LinkEnds) (g : List ZoneData) (taken 
       from : Any (IsNamedBy (shown pointer)) come ⊎ IsNamedBy (shown pointer) g → IsTrue was ⊎ IsNamedBy (shown pointer) g
       from (inl a) = inl (h.2.1 a)
       from (inr n) = inr n
+
+pub titled_in : (s : SoughtName) (groups : List (List ZoneData)) (group : List ZoneData) → IsOneRecord group → IsSoughtName s groups group → IsTitleOf group s.title
+titled_in s [] group one h = absurd h
+titled_in s (sign ∷ come) group one h = h.3 one
+
+-- the next record begins
+pub sought_begun : (s : SoughtName) (groups : List (List ZoneData)) (head : ZoneData) (later : LinkEnds) (title : TitleData)
+    → ((gs : List (List ZoneData)) → HoldsLinkEnds gs [] s.ends → HoldsLinkEnds gs (head ∷ []) later) → IsTitleOf (head ∷ []) title
+    → IsSoughtName s groups [] → IsSoughtName (record { pointer = s.pointer; ends = later; title = title; is_there = s.is_there }) groups (head ∷ [])
+sought_begun s [] head later title ends titled h = absurd h
+sought_begun s (sign ∷ come) head later title ends titled h = (h.0, ends come h.1, h.2, λ one. titled)
+
+-- a zone more comes
+pub sought_on : (s : SoughtName) (groups : List (List ZoneData)) (group : List ZoneData) (z : ZoneData) (later : LinkEnds) (title : TitleData) → IsOneRecord group
+    → ((gs : List (List ZoneData)) → HoldsLinkEnds gs group s.ends → HoldsLinkEnds gs (group ++ z ∷ []) later) → (IsTitleOf group s.title → IsTitleOf (group ++ z ∷ []) title)
+    → IsSoughtName s groups group → IsSoughtName (record { pointer = s.pointer; ends = later; title = title; is_there = s.is_there }) groups (group ++ z ∷ [])
+sought_on s [] group z later title one ends titled h = absurd h
+sought_on s (sign ∷ come) group z later title one ends titled h = (h.0, ends come h.1, h.2, λ more. titled (h.3 one))
 
 -- a record that is found, and one that isn't
 module _ (p : PointerText) (come : List (List ZoneData)) where

@@ -1,36 +1,44 @@
 //! Records of the other VEC files of a lot, at which links of a sheet point.
 
-ghost use Rattle.std.specs.Prelude.{◌≡◌, ◌↔◌, ℕ, List, IfOk, IsTrue, MatchOption, Some, codes};
-ghost use Rattle.edi_line.specs.ZoneData.{entries, first};
-ghost use Rattle.edi_record.specs.Records.{values};
+ghost use Rattle.std.specs.Prelude.{◌≡◌, ◌↔◌, ◌∷◌, [], ℕ, List, IfOk, IsTrue, MatchOption, Some, codes};
+ghost use Rattle.edi_line.specs.ZoneData.{ZoneData, entry};
 ghost use Rattle.edi_record.specs.Texts.{shown};
+ghost use Rattle.edi_record.specs.Titles.{IsTitleOf};
 ghost use Rattle.edi_explain.specs.AstrayZones.{IsNamedBy};
+ghost use Rattle.edi_explain.specs.BreakingZones.{is_typed};
 ghost use Rattle.edi_explain.specs.Elsewhere.{AreStrayEnds, AreTogether, HasNamed, HasStrayEnds, elsewhere_line, link_ends};
-ghost use Rattle.edi_explain.specs.inner.Elsewhere.{AreEndsWithStray, IsSoughtName};
+ghost use Rattle.edi_explain.specs.inner.Elsewhere.{AreEndsWithStray, HoldsLinkEnds, IsSoughtName};
 
 use crate::astray::are_apart;
-use crate::breaking::{is_of_type, is_same};
-use edi_line::codes::RID;
+use crate::breaking::is_same;
 use edi_line::{GroupOut, LineFault, Zone, read_groups};
-use edi_record::{Pointer, first_value};
+use edi_record::{Pointer, RecordTitle};
 use edi_shown::push_shown;
 use std::alloc::{AllocError, Global};
 
 const FTP: [u8; 3] = *b"FTP";
 
-/// The first end of links, and the first that is of another lot or subset.
+/// Whether a record that begins with this zone is a link.
+fn is_link(head: &Zone<'_>) -> bool
+    ensures { result ≡ is_typed (codes "LNK") (entry head.now ∷ []) }
+{
+    matches!(head.value.as_slice(), b"LNK")
+}
+
+/// The first end of links, and the first that is of another lot or subset; and whether the record that is coming is a link.
 #[derive(Drop)]
 struct LinkEnds {
     home: Option<Vec<u8>>,
     stray: Option<Vec<u8>>,
+    is_link: bool,
 }
 
 impl LinkEnds {
-    ghost use Rattle.std.specs.Prelude.{◌≡◌, ◌++◌, ◌∷◌, [], ℕ, List, OnOk, codes};
-    ghost use Rattle.edi_line.specs.ZoneData.{ZoneData, entries};
-    ghost use Rattle.edi_record.specs.Records.{values};
-    ghost use Rattle.edi_explain.specs.Elsewhere.{ends_of_record};
-    ghost use Rattle.edi_explain.specs.inner.Elsewhere.{AreEndsWithStray};
+    ghost use Rattle.std.specs.Prelude.{◌≡◌, ◌++◌, ◌∷◌, [], ℕ, List, OnOk, true};
+    ghost use Rattle.edi_line.specs.Groups.{IsOneRecord};
+    ghost use Rattle.edi_line.specs.ZoneData.{ZoneData, entry};
+    ghost use Rattle.edi_line.specs.Zones.{begins_group};
+    ghost use Rattle.edi_explain.specs.inner.Elsewhere.{AreEndsWithStray, HoldsLinkEnds};
 
     /// Of no ends.
     fn none() -> LinkEnds
@@ -39,12 +47,14 @@ impl LinkEnds {
         LinkEnds {
             home: None,
             stray: None,
+            is_link: false,
         }
     }
 
     /// Takes the next end.
     fn take_end(&mut self, alloc: Global, text: &[u8]) -> Result<(), AllocError>
-        ensures { OnOk result ((ends : List (List ℕ)) → AreEndsWithStray ends self.old
+        ensures is_link { OnOk result (self.new.is_link ≡ self.old.is_link) }
+        ensures ends { OnOk result ((ends : List (List ℕ)) → AreEndsWithStray ends self.old
             → AreEndsWithStray (ends ++ text.now ∷ []) self.new) }
     {
         let home = match &self.home {
@@ -63,36 +73,41 @@ impl LinkEnds {
         Ok(())
     }
 
-    /// Takes the ends among the zones of a link.
-    fn take_ends(&mut self, alloc: Global, group: &[Zone<'_>]) -> Result<(), AllocError>
-        ensures { OnOk result ((ends : List (List ℕ)) → AreEndsWithStray ends self.old
-            → AreEndsWithStray (ends ++ values (codes "FTP") (entries group.now)) self.new) }
+    /// A record begins.
+    fn begin_record(&mut self, head: &Zone<'_>)
+        requires { begins_group (entry head.now) ≡ true }
+        ensures { (groups : List (List ZoneData)) → HoldsLinkEnds groups [] self.old
+            → HoldsLinkEnds groups (entry head.now ∷ []) self.new }
     {
-        for zone in group {
-            if zone.code == FTP {
-                self.take_end(alloc, zone.value.as_slice())?;
-            }
-        }
-        Ok(())
+        self.is_link = is_link(head);
     }
 
-    /// Takes the ends of the next record, if it is a link.
-    fn take_record(&mut self, alloc: Global, group: &[Zone<'_>]) -> Result<(), AllocError>
-        ensures { OnOk result ((ends : List (List ℕ)) → AreEndsWithStray ends self.old
-            → AreEndsWithStray (ends ++ ends_of_record (entries group.now)) self.new) }
+    /// Takes the next zone of the record.
+    fn take_zone(&mut self, alloc: Global, zone: &Zone<'_>) -> Result<(), AllocError>
+        ensures { OnOk result ((groups : List (List ZoneData)) (group : List ZoneData) → IsOneRecord group
+            → HoldsLinkEnds groups group self.old → HoldsLinkEnds groups (group ++ entry zone.now ∷ []) self.new) }
     {
-        if is_of_type(group, b"LNK") {
-            self.take_ends(alloc, group)?;
+        if self.is_link && zone.code == FTP {
+            self.take_end(alloc, zone.value.as_slice())?;
         }
         Ok(())
     }
 }
 
 impl GroupOut for LinkEnds {
-    ghost Holds = { λ ends groups. AreEndsWithStray (link_ends groups) ends };
+    ghost Holds = { λ ends groups group. HoldsLinkEnds groups group ends };
 
-    fn take(&mut self, alloc: Global, group: &[Zone<'_>]) -> Result<(), AllocError> {
-        self.take_record(alloc, group)
+    fn begin(&mut self, _alloc: Global, head: &Zone<'_>) -> Result<(), AllocError> {
+        self.begin_record(head);
+        Ok(())
+    }
+
+    fn take(&mut self, alloc: Global, zone: &Zone<'_>) -> Result<(), AllocError> {
+        self.take_zone(alloc, zone)
+    }
+
+    fn end(&mut self, _alloc: Global) -> Result<(), AllocError> {
+        Ok(())
     }
 }
 
@@ -123,7 +138,7 @@ fn both_of(ends: LinkEnds) -> Option<StrayEnds>
         ((home stray : List ℕ) → ¬ (AreStrayEnds list home stray))
         (λ both. AreStrayEnds list both.home.items both.stray.items) }
 {
-    let LinkEnds { home, stray } = ends;
+    let LinkEnds { home, stray, .. } = ends;
     let home = home?;
     match stray {
         Some(stray) => Some(StrayEnds { home, stray }),
@@ -141,37 +156,49 @@ fn are_together(pointer: Pointer<'_>, text: &[u8]) -> bool
     }
 }
 
-/// Whether the first RID of a record has this value.
-fn is_identified(group: &[Zone<'_>], rid: &[u8]) -> bool
-    ensures { IsTrue result ↔ (first (values (codes "RID") (entries group.now)) ≡ Some rid.now) }
+/// Whether a record that says this of itself has this identifier.
+fn is_identified(title: &RecordTitle, rid: &[u8]) -> bool
+    ensures { IsTrue result ↔ (title.now.rid ≡ Some rid.now) }
 {
-    match first_value(group, RID) {
+    match title.rid() {
         Some(value) => is_same(value, rid),
         None => false,
     }
 }
 
-/// Whether a record is the one that a pointer names.
-fn is_named(pointer: Pointer<'_>, group: &[Zone<'_>]) -> bool
-    ensures { IsTrue result ↔ IsNamedBy (shown pointer.entry) (entries group.now) }
+/// Whether a record that says this of itself is the one that a pointer names.
+fn is_named(pointer: Pointer<'_>, title: &RecordTitle) -> bool
+    ensures { (group : List ZoneData) → IsTitleOf group title.now
+        → IsTrue result ↔ IsNamedBy (shown pointer.entry) group }
 {
-    is_of_type(group, pointer.rty) && is_identified(group, pointer.rid)
+    is_same(title.rty(), pointer.rty) && is_identified(title, pointer.rid)
 }
 
-/// A record that is sought by the pointer that names it, with the ends of the links that came.
+/// A record that is sought by the pointer that names it, with the ends of the links that came, and what the record that is
+/// coming says of itself.
 #[derive(Drop)]
 struct SoughtName<'a> {
     pointer: Pointer<'a>,
     ends: LinkEnds,
+    title: RecordTitle,
     is_there: bool,
 }
 
 impl GroupOut for SoughtName<'_> {
-    ghost Holds = { λ sought groups. IsSoughtName sought groups };
+    ghost Holds = { λ sought groups group. IsSoughtName sought groups group };
 
-    fn take(&mut self, alloc: Global, group: &[Zone<'_>]) -> Result<(), AllocError> {
-        self.ends.take_record(alloc, group)?;
-        if is_named(self.pointer, group) {
+    fn begin(&mut self, _alloc: Global, head: &Zone<'_>) -> Result<(), AllocError> {
+        self.ends.begin_record(head);
+        self.title.begin(head)
+    }
+
+    fn take(&mut self, alloc: Global, zone: &Zone<'_>) -> Result<(), AllocError> {
+        self.ends.take_zone(alloc, zone)?;
+        self.title.take(zone)
+    }
+
+    fn end(&mut self, _alloc: Global) -> Result<(), AllocError> {
+        if is_named(self.pointer, &self.title) {
             self.is_there = true;
         }
         Ok(())
@@ -179,7 +206,7 @@ impl GroupOut for SoughtName<'_> {
 }
 
 impl SoughtName<'_> {
-    ghost use Rattle.std.specs.Prelude.{◌↔◌, ◌∷◌, List, IsTrue};
+    ghost use Rattle.std.specs.Prelude.{◌↔◌, ◌∷◌, [], List, IsTrue};
     ghost use Rattle.edi_line.specs.ZoneData.{ZoneData};
     ghost use Rattle.edi_record.specs.Texts.{shown};
     ghost use Rattle.edi_explain.specs.Elsewhere.{HasNamedAmong};
@@ -187,7 +214,7 @@ impl SoughtName<'_> {
 
     /// Whether the record is there, and the links begin with an end of its lot and subset.
     fn is_found(&self) -> bool
-        ensures { (sign : List ZoneData) (come : List (List ZoneData)) → IsSoughtName self.now (sign ∷ come)
+        ensures { (sign : List ZoneData) (come : List (List ZoneData)) → IsSoughtName self.now (sign ∷ come) []
             → IsTrue result ↔ HasNamedAmong come (shown self.now.pointer) }
     {
         let Some(home) = &self.ends.home else {
@@ -205,6 +232,7 @@ pub fn has_named(alloc: Global, bytes: &[u8], pointer: Pointer<'_>) -> Result<bo
     let mut sought = SoughtName {
         pointer,
         ends: LinkEnds::none(),
+        title: RecordTitle::new(alloc),
         is_there: false,
     };
     match read_groups(alloc, bytes, &mut sought) {

@@ -12,8 +12,9 @@ ghost use Rattle.edi_explain.specs.declared.text.RuleText.{RuleText as Texts};
 
 use crate::explained::sentence_for;
 use crate::lines::{push_broken, push_record};
-use crate::site::{RecordSite, site_of};
+use crate::site::{RecordSite, titled_site};
 use edi_line::{GroupOut, LineFault, Zone, read_groups};
+use edi_record::RecordTitle;
 use std::alloc::{AllocError, Global};
 
 /// Appends the line of a file's line, counted from 1, with the sentence of the rule of lines that it breaks.
@@ -42,27 +43,34 @@ pub fn push_record_rule(
     push_record(text, name, site, sentence_for(rule).as_bytes(), rule)
 }
 
-/// Where the records stand whose zones have come.
+/// Where the records stand whose zones have come, and what the one that is coming says of itself.
 #[derive(Drop)]
 struct SiteList {
     sites: Vec<RecordSite>,
+    title: RecordTitle,
 }
 
 impl GroupOut for SiteList {
-    ghost use Rattle.edi_explain.specs.Sites.{AreAllSites};
+    ghost use Rattle.edi_explain.specs.inner.Sites.{HoldsSites};
 
-    ghost Holds = { λ list groups. AreAllSites groups list.sites.items };
+    ghost Holds = { HoldsSites };
 
-    fn take(&mut self, alloc: Global, group: &[Zone<'_>]) -> Result<(), AllocError> {
-        if let Some(site) = site_of(alloc, group)? {
-            self.sites.push(site)?;
-        }
+    fn begin(&mut self, _alloc: Global, head: &Zone<'_>) -> Result<(), AllocError> {
+        self.title.begin(head)
+    }
+
+    fn take(&mut self, _alloc: Global, zone: &Zone<'_>) -> Result<(), AllocError> {
+        self.title.take(zone)
+    }
+
+    fn end(&mut self, alloc: Global) -> Result<(), AllocError> {
+        self.sites.push(titled_site(alloc, &self.title)?)?;
         Ok(())
     }
 }
 
-/// Where each record of a file that breaks no rule of lines stands, in their order, with the zones of one of them in
-/// memory at a time.
+/// Where each record of a file that breaks no rule of lines stands, in their order, with a few zones in memory at a
+/// time.
 pub fn sites_of_all(alloc: Global, bytes: &[u8]) -> Result<Vec<RecordSite>, AllocError>
     requires { IsUnbroken (BreaksLineRule bytes.now) }
     ensures { IfOk result (λ sites. (zones : List ZoneData) × IsZonesOf bytes.now zones
@@ -70,10 +78,11 @@ pub fn sites_of_all(alloc: Global, bytes: &[u8]) -> Result<Vec<RecordSite>, Allo
 {
     let mut list = SiteList {
         sites: Vec::new(alloc),
+        title: RecordTitle::new(alloc),
     };
     match read_groups(alloc, bytes, &mut list) {
         Ok(_) => {
-            let SiteList { sites } = list;
+            let SiteList { sites, .. } = list;
             Ok(sites)
         }
         Err(LineFault::Memory(error)) => Err(error),

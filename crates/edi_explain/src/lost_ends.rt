@@ -1,7 +1,8 @@
 //! The end with which a link breaks rule 305: it names no node, arc, face or object.
 
-ghost use Rattle.std.specs.Prelude.{◌≡◌, ◌↔◌, ◌++◌, List, Contains, IfOk, IsTrue, MatchOption, OnOk, Some, codes, true};
+ghost use Rattle.std.specs.Prelude.{◌≡◌, ◌↔◌, ◌++◌, ◌∷◌, [], List, Contains, IfOk, IsTrue, MatchOption, OnOk, Some, codes, true};
 ghost use Rattle.edi_hash.specs.Keys.{Holds};
+ghost use Rattle.edi_line.specs.Groups.{IsOneRecord};
 ghost use Rattle.edi_line.specs.ZoneData.{ZoneData, entries, entry, has_code};
 ghost use Rattle.edi_line.specs.Zones.{groups_of};
 ghost use Rattle.edi_record.specs.Texts.{PointerText};
@@ -11,12 +12,24 @@ ghost use Rattle.edi_explain.specs.inner.LostEnds.{AreNamesOfGroups, identifiers
 use crate::breaking::is_same;
 use edi_hash::{KeyNames, NameHash};
 use edi_line::codes::RID;
-use edi_line::{GroupOut, Text, Zone};
+use edi_line::{Text, Zone};
 use edi_record::{Name, Pointer, first_value, group_here};
 use indexmap::IndexSet;
 use std::alloc::{AllocError, Global};
 
 const FTP: [u8; 3] = *b"FTP";
+
+/// What takes records whose zones are in memory, one after the other.
+trait WholeGroupOut {
+    /// Whether it is as these records, all that it has taken, make it.
+    ghost Holds: { Self → List (List ZoneData) → Type 0 };
+
+    /// Takes the zones of the next record, of which the first is its RTY.
+    fn take(&mut self, alloc: Global, group: &[Zone<'_>]) -> Result<(), AllocError>
+        requires { IsOneRecord (entries group.now) }
+        ensures { OnOk result ((groups : List (List ZoneData)) → Holds self.old groups
+            → Holds self.new (groups ++ entries group.now ∷ [])) };
+}
 
 /// What makes a key of the identifiers of records. Their types are left out: one identifier makes five names at most,
 /// too few to choose among.
@@ -25,7 +38,7 @@ struct NamesKey {
     identifiers: KeyNames,
 }
 
-impl GroupOut for NamesKey {
+impl WholeGroupOut for NamesKey {
     ghost Holds = { λ key groups. Holds key.identifiers (identifiers groups) };
 
     fn take(&mut self, alloc: Global, group: &[Zone<'_>]) -> Result<(), AllocError> {
@@ -67,7 +80,7 @@ struct GatheredNames {
     names: IndexSet<Name, NameHash>,
 }
 
-impl GroupOut for GatheredNames {
+impl WholeGroupOut for GatheredNames {
     ghost Holds = { λ out groups. AreNamesOfGroups groups out.names.keys };
 
     fn take(&mut self, alloc: Global, group: &[Zone<'_>]) -> Result<(), AllocError> {
@@ -79,7 +92,11 @@ impl GroupOut for GatheredNames {
 }
 
 /// Hands the zones of each record on, in the order of the records.
-fn hand_on<O: GroupOut>(alloc: Global, zones: &[Zone<'_>], out: &mut O) -> Result<(), AllocError>
+fn hand_on<O: WholeGroupOut>(
+    alloc: Global,
+    zones: &[Zone<'_>],
+    out: &mut O,
+) -> Result<(), AllocError>
     ensures { OnOk result ((groups : List (List ZoneData)) → O.Holds out.old groups
         → O.Holds out.new (groups ++ groups_of (entries zones.now))) }
 {

@@ -5,13 +5,14 @@ ghost use Rattle.edi_line.specs.ZoneData.{ZoneData, entries};
 ghost use Rattle.edi_line.specs.LineRules.{BreaksLineRule, IsZonesOf};
 ghost use Rattle.edi_line.specs.Refusal.{IsUnbroken};
 ghost use Rattle.edi_line.specs.Zones.{groups_of};
-ghost use Rattle.edi_explain.specs.Sites.{IsSiteIfAny};
+ghost use Rattle.edi_record.specs.Titles.{IsTitleOf};
+ghost use Rattle.edi_explain.specs.Sites.{IsSiteIfAny, IsSiteOfGroup};
 ghost use Rattle.edi_explain.specs.inner.Found.{group_numbered, number_from_one};
 ghost use Rattle.edi_explain.specs.inner.Sites.{IsGroupSite};
 
 use edi_line::codes::{RID, RTY};
 use edi_line::{LineFault, Text, Zone, zones};
-use edi_record::{first_value, group_here};
+use edi_record::{RecordTitle, first_value, group_here};
 use std::alloc::{AllocError, Global};
 
 /// Where a record of a file stands, and what it calls itself.
@@ -72,6 +73,16 @@ pub(crate) fn record_at<'a, 'b>(zones: &'b [Zone<'a>], place: Option<u64>) -> Op
     group_of(zones, place?)
 }
 
+/// A text of these bytes, if there are any.
+fn text_if_any(alloc: Global, value: Option<&[u8]>) -> Result<Option<Text>, AllocError>
+    ensures { IfOk result (λ text. text ≡ option_map (λ v. v.now) value.entry) }
+{
+    match value {
+        Some(value) => Ok(Some(Text::from_slice(alloc, value)?)),
+        None => Ok(None),
+    }
+}
+
 /// The site of the record of these zones, if one begins with the first.
 pub(crate) fn site_of(alloc: Global, group: &[Zone<'_>]) -> Result<Option<RecordSite>, AllocError>
     ensures { IfOk result (λ found. IsGroupSite (entries group.now) found) }
@@ -79,15 +90,22 @@ pub(crate) fn site_of(alloc: Global, group: &[Zone<'_>]) -> Result<Option<Record
     let [head, ..] = group else {
         return Ok(None);
     };
-    let rid = match first_value(group, RID) {
-        Some(value) => Some(Text::from_slice(alloc, value)?),
-        None => None,
-    };
     Ok(Some(RecordSite {
         line: head.line,
         rty: Text::from_slice(alloc, head.value.as_slice())?,
-        rid,
+        rid: text_if_any(alloc, first_value(group, RID))?,
     }))
+}
+
+/// The site of a record that says this of itself.
+pub(crate) fn titled_site(alloc: Global, title: &RecordTitle) -> Result<RecordSite, AllocError>
+    ensures { IfOk result (λ site. (group : List ZoneData) → IsTitleOf group title.now → IsSiteOfGroup group site) }
+{
+    Ok(RecordSite {
+        line: title.line(),
+        rty: Text::from_slice(alloc, title.rty())?,
+        rid: text_if_any(alloc, title.rid())?,
+    })
 }
 
 /// Where a record begins whose zones may have been found.

@@ -7,7 +7,7 @@ pub mod Rules
 pub mod Passes
 pub mod Ends
 pub mod Feeds
-pub mod Stretches
+pub mod HandedZones
 pub mod HandedOn
 pub mod Joined
 pub mod FilePieces

@@ -1,12 +1,9 @@
 -- The zones that are done, and the one that is open.
-use Rattle.std.proofs.Common.{◌≡◌, ℕ, zero, suc, ◌+◌, ◌-◌, ◌≤◌, ◌==◌, Bool, true, false, not, ◌&&◌, refl, sym, ap, ◌∙◌, List, [], ◌∷◌, ◌++◌, length, map, Option, Some, None, option_map, option_to_list, slice_index_or, slice_set, take, arith}
-use Rattle.std.proofs.Math.Bool.{and-true}
-use Rattle.std.proofs.lemmas.List.{append-nil, append_assoc, map-append, length-map}
+use Rattle.std.proofs.Common.{◌≡◌, ℕ, zero, suc, ◌+◌, ◌-◌, ◌≤◌, Bool, true, false, refl, sym, ap, ◌∙◌, List, [], ◌∷◌, ◌++◌, length, map, Option, Some, None, option_map, option_to_list, slice_index_or, slice_set, take, arith}
+use Rattle.std.proofs.lemmas.List.{append-nil, append_assoc, map-append}
 use Rattle.edi_line.specs.ZoneData.{ZoneData, entry, entries}
 use Rattle.edi_line.specs.Feeding.{Zoned}
-use Rattle.edi_line.specs.Zones.{ends_group}
 use Rattle.edi_line.specs.inner.Borrowed.{begins_at}
-use Rattle.edi_line.specs.inner.Groups.{has_group}
 use Rattle.edi_line.specs.inner.ZoneLists.{all_but_last, last_if_any, done_of, open_of}
 use Rattle.edi_line.specs.inner.Zones.{with_more}
 use Rattle.edi_line.specs.declared.zone.Zone.{Zone}
@@ -54,13 +51,6 @@ done_taken false xs is some = absurd cc
 pub open_left : {X : Type 0} (is_open : Bool) (front xs ys : List X) (x : X) → is_open ≡ true → xs ≡ front ++ x ∷ [] → ys ≡ x ∷ [] → open_of is_open ys ≡ open_of is_open xs
 open_left true front xs ys x is e left = ap last_if_any left ∙ sym (open_opened front xs x e)
 open_left false front xs ys x is e left = absurd cc
-
--- behind others the open zone ends their group, or doesn't
-pub group_of_last : (is_open : Bool) (front xs : List Zone) (z : Zone) → is_open ≡ true → xs ≡ front ++ z ∷ [] → (length front == 0) ≡ false
-    → has_group (record { done = entries (done_of is_open xs); open_zone = option_map entry (open_of is_open xs) }) ≡ ends_group (entry z)
-group_of_last true front xs z is e some =
-    rw (ap all_but_last e ∙ done_pushed front z, open_opened front xs z e) (ap (λ n. ends_group (entry z) && not (n == 0)) (length-map front entry) ∙ ap (λ b. ends_group (entry z) && not b) some ∙ and-true (ends_group (entry z)))
-group_of_last false front xs z is e some = absurd cc
 
 -- ---- the open zone is lengthened
 

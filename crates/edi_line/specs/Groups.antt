@@ -1,5 +1,5 @@
 -- The zones of a file, handed on record by record.
-use Rattle.std.specs.Prelude.{◌≡◌, ℕ, ◌≤◌, true, false, List, ◌∷◌, ◌++◌, length, Option, option_map}
+use Rattle.std.specs.Prelude.{◌≡◌, ℕ, ◌≤◌, true, false, List, [], ◌∷◌, ◌++◌, length, Option, option_map}
 use Rattle.std.specs.List.{list_any}
 use Rattle.edi_line.specs.Bytes.{most_records}
 use Rattle.edi_line.specs.ZoneData.{ZoneData}
@@ -16,10 +16,10 @@ pub record IsOneRecord (group : List ZoneData) : Type 0 where
 
 -- the zones of each record of the file were handed on, in the order of the records, and this is its character set
 pub record IsHandedOut (bytes : List ℕ) (charset : Option (List ℕ))
-    (Before After : List (List ZoneData) → Type 0) : Type 0 where
+    (Before After : List (List ZoneData) → List ZoneData → Type 0) : Type 0 where
   pub zones : List ZoneData
   pub of_file : IsZonesOf bytes zones
   pub shape : HasShape zones
   pub few : length (groups_of zones) ≤ most_records
   pub charset_is : charset ≡ option_map (λ z. z.value) (charset_of zones)
-  pub handed : (groups : List (List ZoneData)) → Before groups → After (groups ++ groups_of zones)
+  pub handed : (groups : List (List ZoneData)) → Before groups [] → After (groups ++ groups_of zones) []

@@ -4,7 +4,6 @@ ghost use Rattle.std.specs.Prelude.{Option, Some, None, true, false, ◌≡◌, 
 ghost use Rattle.edi_line.specs.Bytes.{most_records};
 ghost use Rattle.edi_line.specs.ZoneData.{ZoneData, entry, entries};
 ghost use Rattle.edi_line.specs.Zones.{HasShape, IsFileOf, IsBorrowedUnlessContinued, IsZonesIn, groups_of, charset_of};
-ghost use Rattle.edi_line.specs.inner.Groups.{has_group};
 ghost use Rattle.edi_line.specs.inner.Zones.{part_by};
 ghost use Rattle.edi_line.specs.LineKinds.{kind_of as kind_in};
 ghost use Rattle.edi_line.specs.LineRules.{BreaksLineRule, IsZonesOf};
@@ -183,11 +182,9 @@ impl<'a> Reader<'a> {
         })
     }
 
-    /// Whether zones are done, and the next record or the end has begun.
-    pub(crate) fn has_group(&self) -> bool
-        ensures { result ≡ has_group (zoned self.now) }
-    {
-        self.zones.has_group()
+    /// Whether so many zones have begun that those which are done should be used and let go.
+    pub(crate) fn has_many(&self) -> bool {
+        self.zones.has_many()
     }
 
     /// The zones that are done.

@@ -50,6 +50,19 @@ impl<'a> Zone<'a> {
         }
     }
 
+    /// A copy, which owns its value.
+    pub fn copied(&self, alloc: Global) -> Result<Zone<'static>, AllocError>
+        ensures { IfOk result (λ copy. entry copy ≡ entry self.now) }
+    {
+        Ok(Zone {
+            line: self.line,
+            code: self.code,
+            nature: self.nature,
+            format: self.format,
+            value: CowSlice::Owned(Vec::from_slice(alloc, self.value.as_slice())?),
+        })
+    }
+
     /// The same zone, which owns its value.
     pub(crate) fn into_owned(self, alloc: Global) -> Result<Zone<'static>, AllocError>
         ensures { IfOk result (λ owned. entry owned ≡ entry self.entry) }

@@ -2,14 +2,15 @@
 
 ghost use Rattle.std.specs.Prelude.{◌≡◌, false, [], ◌∷◌, ◌++◌, None, Some, OnOk, IfOk, option_map, option_to_list};
 ghost use Rattle.edi_line.specs.ZoneData.{entry};
-ghost use Rattle.edi_line.specs.Zones.{ends_group as zone_ends_group};
 ghost use Rattle.edi_line.specs.inner.Borrowed.{IsClosed, IsLengthened};
-ghost use Rattle.edi_line.specs.inner.Groups.{has_group};
 ghost use Rattle.edi_line.specs.inner.ZoneLists.{done_in, open_in, zoned_list};
 ghost use Rattle.edi_line.specs.inner.Zones.{with_more};
 
 use crate::zone::Zone;
 use std::alloc::{AllocError, Global};
+
+// How many zones are many. They stay in the processor's nearest memory.
+const MANY: usize = 64;
 
 /// The zones that have begun. Where the list is open, the next line may still lengthen the last of them; the others
 /// are done.
@@ -65,17 +66,9 @@ impl<'a> ZoneList<'a> {
         self.is_open = false;
     }
 
-    /// Whether zones are done, and the next record or the end has begun.
-    pub(crate) fn has_group(&self) -> bool
-        ensures { result ≡ has_group (zoned_list self.now) }
-    {
-        if !self.is_open {
-            return false;
-        }
-        match self.zones.split_last() {
-            Some((last, done)) => !done.is_empty() && ends_group(last),
-            None => false,
-        }
+    /// Whether so many zones have begun that those which are done should be used and let go.
+    pub(crate) fn has_many(&self) -> bool {
+        self.zones.len() >= MANY
     }
 
     /// The zones that are done.
@@ -123,11 +116,4 @@ impl<'a> ZoneList<'a> {
     {
         self.zones
     }
-}
-
-/// Whether a zone begins the next record or is the end.
-fn ends_group(zone: &Zone<'_>) -> bool
-    ensures { result ≡ zone_ends_group (entry zone.now) }
-{
-    matches!(&zone.code, b"RTY" | b"EOM")
 }

@@ -1,8 +1,9 @@
 -- The names that are taken of a file's zones are those of its records.
-use Rattle.std.proofs.Common.{◌≡◌, ◌<◌, ◌^◌, ℕ, List, [], ◌∷◌, ◌++◌, map, length, Some, option_and_then, unwrap_or, refl, sym, ap, ◌∙◌, subst}
+use Rattle.std.proofs.Common.{◌≡◌, ◌<◌, ◌^◌, ℕ, List, [], ◌∷◌, ◌++◌, map, length, Some, option_and_then, unwrap_or, codes, true, refl, sym, ap, ◌∙◌, subst}
 use Rattle.std.specs.List.{AllZip}
 use Rattle.edi_line.specs.ZoneData.{ZoneData, first}
-use Rattle.edi_line.specs.Zones.{groups_of}
+use Rattle.edi_line.specs.Groups.{IsOneRecord}
+use Rattle.edi_line.specs.Zones.{begins_group, groups_of}
 use Rattle.edi_line.proofs.ZonesSaid.{zones_of_one}
 use Rattle.edi_record.specs.Observers.{SawAll}
 use Rattle.edi_record.specs.Records.{States}
@@ -10,14 +11,16 @@ use Rattle.edi_record.specs.Shapes.{kind_code}
 use Rattle.edi_record.specs.declared.record.Kind.{Kind}
 use Rattle.edi_record.specs.declared.record.Kind.TheVariants.{Pno, Par, Pfe, Fea, Lnk}
 use Rattle.edi_record.specs.declared.record.Record.{Record}
-use Rattle.edi_record.specs.inner.RecordRules.{kind_named}
+use Rattle.edi_record.specs.Titles.{IsTitleOf, TitleData}
+use Rattle.edi_record.specs.inner.RecordRules.{kind_in, kind_named}
+use Rattle.edi_record.proofs.GroupCuts.{value_here}
 use Rattle.edi_schema.specs.Classes.{Classes}
 use Rattle.edi_plan.specs.Plans.{PlanData}
 use Rattle.edi_compare.specs.PlanOfFile.{IsPlanOfFile}
 use Rattle.edi_compare.specs.Rules.{IsAccepted, LinesHold, RecordsHold}
 use Rattle.edi_compare.specs.Rules.Breaks.{of_lines, of_records}
 use Rattle.edi_pairing.specs.Names.{AreNames, AreNamesOf, names_of}
-use Rattle.edi_pairing.specs.inner.Taken.{HasTaken, taken_kind, taken_name, taken_rid}
+use Rattle.edi_pairing.specs.inner.Taken.{HasTaken, taken_kind, taken_name, taken_rid, titled_name}
 use Rattle.edi_pairing.specs.declared.names.RecordName.{RecordName}
 use Rattle.edi_pairing.specs.declared.taken.TakenNames.{TakenNames}
 use Rattle.edi_compare.proofs.Phases.{sheet_whole}
@@ -33,11 +36,24 @@ name_of kind rid = record { kind = kind; rid = rid }
 named : (kind other : Kind) (rid text : List ℕ) → kind ≡ other → rid ≡ text → name_of kind rid ≡ name_of other text
 named kind other rid text h k i = name_of (h i) (k i)
 
+-- the type that a record states is that of its first zone
+titled : (group : List ZoneData) (title : TitleData) → IsOneRecord group → IsTitleOf group title → titled_name title ≡ taken_name group
+titled group title one is =
+    let same : one.head ∷ one.rest ≡ is.head ∷ is.rest = sym one.joined ∙ is.is in
+    let leads : begins_group is.head ≡ true = ap begins_group (sym (ap (first_or is.head) same)) ∙ one.leads in
+    let kind : kind_named title.rty ≡ kind_in group =
+    ap kind_named is.rty ∙ sym (ap (λ vs. option_and_then kind_named (first vs)) (value_here (codes "RTY") is.head is.rest is.head.value leads refl)) ∙ sym (ap kind_in is.is) in
+    named (unwrap_or (kind_named title.rty) Pno) (taken_kind group) (unwrap_or title.rid []) (taken_rid group) (ap (λ k. unwrap_or k Pno) kind) (ap (λ r. unwrap_or r []) is.rid)
+  where
+    first_or : ZoneData → List ZoneData → ZoneData
+    first_or d [] = d
+    first_or d (x ∷ xs) = x
+
 -- a record's name behind those of the records before it
-pub taken_push : (names : List RecordName) (groups : List (List ZoneData)) (group : List ZoneData) (kind : Kind) (rid : List ℕ)
-    → names ≡ map taken_name groups → kind ≡ taken_kind group → rid ≡ taken_rid group → names ++ record { kind = kind; rid = rid } ∷ [] ≡ map taken_name (groups ++ group ∷ [])
-taken_push names groups group kind rid held h k =
-    ap (λ list. list ++ record { kind = kind; rid = rid } ∷ []) held ∙ (ap (λ name. map taken_name groups ++ name ∷ []) (named kind (taken_kind group) rid (taken_rid group) h k) ∙ sym (pushed groups group))
+pub taken_push : (names : List RecordName) (groups : List (List ZoneData)) (group : List ZoneData) (title : TitleData) (name : RecordName)
+    → names ≡ map taken_name groups → IsOneRecord group → IsTitleOf group title → name ≡ titled_name title → names ++ name ∷ [] ≡ map taken_name (groups ++ group ∷ [])
+taken_push names groups group title name held one is h =
+    ap (λ list. list ++ name ∷ []) held ∙ (ap (λ n. map taken_name groups ++ n ∷ []) (h ∙ titled group title one is) ∙ sym (pushed groups group))
 
 named_back : (kind : Kind) → kind_named (kind_code kind) ≡ Some kind
 named_back Pno = refl
@@ -63,7 +79,7 @@ all_are (g ∷ groups) (r ∷ list) h = ap (λ name. name ∷ map taken_name gro
 
 module _ (s : Classes) (b : List ℕ) (p : PlanData) (taken : TakenNames) (plan : IsPlanOfFile s b p) (all : SawAll b (HasTaken taken)) where
   taken_are : taken.list.items ≡ names_of plan.0.list
-  taken_are = all.2 ∙ (ap (map taken_name) (ap groups_of (zones_of_one b all.0 plan.1.0 all.1 plan.1.1)) ∙ all_are (groups_of plan.1.0) plan.0.list plan.1.2.records)
+  taken_are = all.2.names ∙ (ap (map taken_name) (ap groups_of (zones_of_one b all.0 plan.1.0 all.1 plan.1.1)) ∙ all_are (groups_of plan.1.0) plan.0.list plan.1.2.records)
 
   pub names_taken : AreNamesOf b taken.list.items
   names_taken = (plan.0, plan.1, taken_are)

@@ -1,34 +1,34 @@
 //! The names of a sheet's records, taken while the sheet is read.
 
-ghost use Rattle.std.specs.Prelude.{◌≡◌, []};
-ghost use Rattle.edi_line.specs.ZoneData.{entries};
-ghost use Rattle.edi_pairing.specs.inner.Taken.{HasTaken, taken_kind, taken_rid};
+ghost use Rattle.std.specs.Prelude.{◌≡◌, [], IfOk};
+ghost use Rattle.edi_pairing.specs.inner.Taken.{HasTaken, titled_name};
 
 use crate::names::RecordName;
 use crate::wrong::kind_named;
-use edi_line::codes::{RID, RTY};
 use edi_line::{GroupOut, Text, Zone};
-use edi_record::{Kind, first_value};
+use edi_record::{Kind, RecordTitle};
 use std::alloc::{AllocError, Global};
 
-/// The names of the records that have come.
+/// The names of the records that have come, and what the one that is coming says of itself.
 pub(crate) struct TakenNames {
     list: Vec<RecordName>,
+    title: RecordTitle,
 }
 
 impl Drop for TakenNames {
     fn drop(self) {
-        let TakenNames { list: _ } = self;
+        let TakenNames { list: _, title: _ } = self;
     }
 }
 
 impl TakenNames {
     /// No names, before the first record.
     pub(crate) fn new(alloc: Global) -> TakenNames
-        ensures { HasTaken result [] }
+        ensures { HasTaken result [] [] }
     {
         TakenNames {
             list: Vec::new(alloc),
+            title: RecordTitle::new(alloc),
         }
     }
 
@@ -36,7 +36,7 @@ impl TakenNames {
     pub(crate) fn into_vec(self) -> Vec<RecordName>
         ensures { result.items ≡ self.list.items }
     {
-        let TakenNames { list } = self;
+        let TakenNames { list, title: _ } = self;
         list
     }
 }
@@ -44,30 +44,27 @@ impl TakenNames {
 impl GroupOut for TakenNames {
     ghost Holds = { HasTaken };
 
-    fn take(&mut self, alloc: Global, group: &[Zone<'_>]) -> Result<(), AllocError> {
-        let kind = kind_of(group);
-        let rid = Text::from_slice(alloc, identifier_of(group))?;
-        self.list.push(RecordName { kind, rid })?;
+    fn begin(&mut self, _alloc: Global, head: &Zone<'_>) -> Result<(), AllocError> {
+        self.title.begin(head)
+    }
+
+    fn take(&mut self, _alloc: Global, zone: &Zone<'_>) -> Result<(), AllocError> {
+        self.title.take(zone)
+    }
+
+    fn end(&mut self, alloc: Global) -> Result<(), AllocError> {
+        self.list.push(name_of(alloc, &self.title)?)?;
         Ok(())
     }
 }
 
-/// The type that the first RTY of a record names. One that names none breaks 201, and counts as a node.
-fn kind_of(group: &[Zone<'_>]) -> Kind
-    ensures { result ≡ taken_kind (entries group.now) }
+/// The name of a record that says this of itself. One of no known type breaks 201, and counts as a node; one without an
+/// identifier breaks 202, and its name has none.
+fn name_of(alloc: Global, title: &RecordTitle) -> Result<RecordName, AllocError>
+    ensures { IfOk result (λ name. name ≡ titled_name title.now) }
 {
-    match first_value(group, RTY) {
-        Some(code) => kind_named(code).unwrap_or(Kind::Pno),
-        None => Kind::Pno,
-    }
-}
-
-/// The value of the first RID of a record, or nothing.
-fn identifier_of<'b>(group: &'b [Zone<'_>]) -> &'b [u8]
-    ensures { result.now ≡ taken_rid (entries group.now) }
-{
-    match first_value(group, RID) {
-        Some(rid) => rid,
-        None => b"",
-    }
+    Ok(RecordName {
+        kind: kind_named(title.rty()).unwrap_or(Kind::Pno),
+        rid: Text::from_slice(alloc, title.rid().unwrap_or(b""))?,
+    })
 }

@@ -1,9 +1,9 @@
 -- The records of the groups, one after the other.
-use Rattle.std.proofs.Common.{◌≡◌, ℕ, suc, drop, ◌+◌, ◌<◌, ◌≤◌, ◌⊎◌, inl, inr, Bool, true, false, List, [], ◌∷◌, ◌++◌, length, Option, Some, None, is_some, refl, sym, ap, ◌∙◌, subst, arith, length-append}
+use Rattle.std.proofs.Common.{◌≡◌, ℕ, suc, ◌+◌, ◌<◌, ◌≤◌, ◌⊎◌, inl, inr, Bool, true, false, List, [], ◌∷◌, ◌++◌, length, Option, Some, None, is_some, option_and_then, codes, refl, sym, ap, ◌∙◌, subst, arith, length-append}
 use Rattle.std.specs.List.{AllByRecursion, AllZip, list_all}
 use Rattle.std.proofs.lemmas.Bool.{and_parts, and_from}
 use Rattle.std.proofs.lemmas.List.{append-nil, append_assoc}
-use Rattle.edi_line.specs.ZoneData.{ZoneData, entry, entries}
+use Rattle.edi_line.specs.ZoneData.{ZoneData, entry, entries, first}
 use Rattle.edi_line.specs.declared.zone.Zone.{Zone}
 use Rattle.edi_line.specs.Zones.{begins_group, before_end, groups_of}
 use Rattle.edi_line.specs.Refusal.{IsUnbroken, IsLeastBroken, BreaksTest}
@@ -12,8 +12,10 @@ use Rattle.edi_line.proofs.FirstBroken.{none_broken, first_is_least}
 use Rattle.edi_line.proofs.Rules.{AreApart, two_cuts}
 use Rattle.edi_record.specs.Shapes.{is_in_shape}
 use Rattle.edi_record.specs.inner.Records.{ReadsAsRecord}
-use Rattle.edi_record.specs.inner.RecordRules.{record_tests, FailsTest}
-use Rattle.edi_record.specs.inner.Lists.{IsSound, IsListOfGroups, IsFirstBroken, IsMadeOfGroups}
+use Rattle.edi_record.specs.Records.{values}
+use Rattle.edi_record.specs.inner.RecordRules.{kind_in, kind_named, record_tests, FailsTest}
+use Rattle.edi_record.specs.inner.Stored.{StoresRecord, kept}
+use Rattle.edi_record.specs.inner.Lists.{IsSound, IsListOfGroups, IsFirstBroken, IsMadeOfGroups, HoldsRecords, IsComingOf, IsComingUnless, IsRecordOf, StoresComing}
 use Rattle.edi_record.specs.RecordRefusal.{IsRecordRefusal}
 use Rattle.edi_record.specs.RecordRules.{BreaksRecordRule}
 use Rattle.edi_record.proofs.RulesSaid.{records_unbroken, refusal_said}
@@ -23,8 +25,17 @@ use Rattle.edi_record.specs.declared.fault.GroupFault.TheVariants.{Memory as Gro
 use Rattle.edi_record.specs.declared.fault.RecordFault.{RecordFault}
 use Rattle.edi_record.specs.declared.fault.RecordFault.TheVariants.{Memory, Broken}
 use Rattle.edi_line.specs.Groups.{IsHandedOut, IsOneRecord}
-use Rattle.edi_line.proofs.Stretches.{inner_whole}
+use Rattle.edi_line.proofs.HandedZones.{inner_whole}
+use Rattle.edi_record.specs.declared.draft.Draft.{Draft}
+use Rattle.edi_record.specs.declared.list.Coming.{Coming}
+use Rattle.edi_record.specs.declared.list.Coming.TheVariants.{Nothing, WithoutKind, Stored}
+use Rattle.edi_record.specs.declared.list.RecordsUntilFault.{RecordsUntilFault}
+use Rattle.edi_record.specs.declared.record.Kind.{Kind}
 use Rattle.edi_record.specs.declared.record.Record.{Record}
+use Rattle.edi_record.specs.declared.record_parts.RecordParts.{RecordParts}
+use Rattle.edi_record.proofs.GroupCuts.{one_type, value_here}
+use Rattle.edi_record.proofs.RecordStored.{skipped as head_skipped}
+use Rattle.std.proofs.lemmas.Slice.Eq.{bytes_eq-Decides}
 
 -- the groups before these zones state the records, and break no rule
 pub record SoFar (zones rest : List ZoneData) (list : List Record) : Type 0 where
@@ -185,9 +196,6 @@ list_refused groups list group rule place h broken place_is = record {
   place_is = omega (arith, place_is, zip_length groups list h.states);
 }
 
-pub rule_of_fault : (zones group : List ZoneData) (fault : GroupFault) (rule : ℕ) → zones ≡ group → fault ≡ GroupBroken rule → IsGroupRefusal zones fault → first_broken (record_tests group) ≡ Some rule
-rule_of_fault zones group fault rule same is h = subst (λ g. first_broken (record_tests g) ≡ Some rule) same (subst (IsGroupRefusal zones) is h)
-
 -- what comes behind a broken rule changes nothing
 made_still : (groups : List (List ZoneData)) (group : List ZoneData) (list : List Record) (fault : RecordFault) → IsMadeOfGroups groups list (Some fault) → IsMadeOfGroups (groups ++ group ∷ []) list (Some fault)
 made_still groups group list (Memory e) h = tt
@@ -214,26 +222,101 @@ pub made_more : (groups : List (List ZoneData)) (list : List Record) (fault : Op
 made_more groups list None e h = h
 made_more groups list (Some fault) e h = absurd (cc)
 
--- the zones of one record are its group
-pub one_record : (group : List ZoneData) (z : ZoneData) (zs : List ZoneData) → IsOneRecord group → group ≡ z ∷ zs → (begins_group z ≡ true) × (z ∷ before_end zs ≡ group)
-one_record group z zs h e =
-    let same : h.head ∷ h.rest ≡ z ∷ zs = sym h.joined ∙ e in
-    let heads : h.head ≡ z = ap (λ l. first_or z l) same in
-    let rests : h.rest ≡ zs = ap (drop 1) same in
-    (ap begins_group (sym heads) ∙ h.leads, ap (λ t. z ∷ t) (ap before_end (sym rests) ∙ inner_whole h.rest h.whole ∙ rests) ∙ sym e)
-  where
-    first_or : ZoneData → List ZoneData → ZoneData
-    first_or d [] = d
-    first_or d (x ∷ xs) = x
+-- ---- the record that is coming
+
+kind_of_head : (head : ZoneData) (zs : List ZoneData) → begins_group head ≡ true → kind_in (head ∷ zs) ≡ kind_named head.value
+kind_of_head head zs begins = ap (λ vs. option_and_then kind_named (first vs)) (value_here (codes "RTY") head zs head.value begins refl)
+
+-- a zone more doesn't change its type
+kind_still : (group : List ZoneData) (z : ZoneData) → IsOneRecord group → kind_in (group ++ z ∷ []) ≡ kind_in group
+kind_still group z one =
+    ap (λ g. kind_in (g ++ z ∷ [])) one.joined ∙ kind_of_head one.head (one.rest ++ z ∷ []) one.leads ∙ sym (kind_of_head one.head one.rest one.leads) ∙ ap kind_in (sym one.joined)
+
+pub type_once : (group : List ZoneData) → IsOneRecord group → length (values (codes "RTY") group) ≡ 1
+type_once group one =
+    ap (λ g. length (values (codes "RTY") g)) (one.joined ∙ ap (λ l. one.head ∷ l) (sym (inner_whole one.rest one.whole))) ∙ one_type one.head one.rest one.leads
+
+-- a record of this type has begun, or one of none
+pub kind_begun : (head : ZoneData) (text : List ℕ) (kind : Option Kind) → begins_group head ≡ true → text ≡ head.value → kind ≡ kind_named text → kind_in (head ∷ []) ≡ kind
+kind_begun head text kind begins same is = kind_of_head head [] begins ∙ ap kind_named (sym same) ∙ sym is
+
+pub stores_begun : (d : Draft) (parts : RecordParts) (head : ZoneData) → begins_group head ≡ true → kind_in (head ∷ []) ≡ Some d.kind
+    → ((group : List ZoneData) → StoresRecord (kept d parts) group group) → StoresComing d parts (head ∷ [])
+stores_begun d parts head begins kind keeps = record {
+  kind = kind;
+  stores = λ left. head_skipped (kept d parts) head left (head ∷ left) (inl ((bytes_eq-Decides head.code (codes "RTY")).0 begins)) (keeps (head ∷ left));
+}
+
+-- a zone more
+pub stores_more : (old new : Draft) (before after : RecordParts) (group : List ZoneData) (z : ZoneData) → IsOneRecord group → new.kind ≡ old.kind
+    → ((left group : List ZoneData) → StoresRecord (kept old before) (z ∷ left) group → StoresRecord (kept new after) left group) → StoresComing old before group → StoresComing new after (group ++ z ∷ [])
+stores_more old new before after group z one same keeps h = record {
+  kind = kind_still group z one ∙ h.kind ∙ ap (λ k. Some k) (sym same);
+  stores = λ left. keeps left ((group ++ z ∷ []) ++ left) (subst (StoresRecord (kept old before) (z ∷ left)) (sym (append_assoc group (z ∷ []) left)) (h.stores (z ∷ left)));
+}
+
+-- all its zones have come
+pub stores_all : (d : Draft) (parts : RecordParts) (group : List ZoneData) → StoresComing d parts group → StoresRecord (kept d parts) [] group
+stores_all d parts group h = subst (StoresRecord (kept d parts) []) (append-nil group) (h.stores [])
+
+-- a record begins behind one that breaks a rule
+pub begun_past : (fault : Option RecordFault) (coming : Coming) (parts : RecordParts) (before group : List ZoneData) → is_some fault ≡ true → IsComingUnless fault coming parts before → IsComingUnless fault coming parts group
+begun_past None coming parts before group e h = absurd cc
+begun_past (Some fault) coming parts before group e h = h
+
+pub begun_now : (fault : Option RecordFault) (coming : Coming) (parts : RecordParts) (group : List ZoneData) → is_some fault ≡ false → IsComingOf coming parts group → IsComingUnless fault coming parts group
+begun_now None coming parts group e h = h
+begun_now (Some fault) coming parts group e h = absurd cc
+
+not_empty : (group : List ZoneData) → IsOneRecord group → group ≡ [] → ⊥
+not_empty group one e = let wrong : one.head ∷ one.rest ≡ [] = sym one.joined ∙ e in absurd cc
+
+module _ (group : List ZoneData) (z : ZoneData) (one : IsOneRecord group) where
+  pub taken_by : (fault : Option RecordFault) (coming : Coming) (old new : Draft) (before after : RecordParts) → coming ≡ Stored old → new.kind ≡ old.kind
+      → ((left group : List ZoneData) → StoresRecord (kept old before) (z ∷ left) group → StoresRecord (kept new after) left group)
+      → IsComingUnless fault coming before group → IsComingUnless fault (Stored new) after (group ++ z ∷ [])
+  taken_by None coming old new before after is same keeps h = stores_more old new before after group z one same keeps (subst (λ (k : Coming). IsComingOf k before group) is h)
+  taken_by (Some fault) coming old new before after is same keeps h = let wrong : Stored old ≡ Nothing = sym is ∙ h in absurd cc
+
+  -- nothing is stored of the record, or it is of no known type
+  pub taken_past : (fault : Option RecordFault) (coming : Coming) (parts : RecordParts) → ((d : Draft) → ¬ (coming ≡ Stored d)) → IsComingUnless fault coming parts group → IsComingUnless fault coming parts (group ++ z ∷ [])
+  taken_past None Nothing parts other h = absurd (not_empty group one h)
+  taken_past None WithoutKind parts other h = kind_still group z one ∙ h
+  taken_past None (Stored d) parts other h = absurd (other d refl)
+  taken_past (Some fault) coming parts other h = h
+
+-- ---- the record is whole
+
+module _ (groups : List (List ZoneData)) (group : List ZoneData) (one : IsOneRecord group) (coming : Coming) (parts now : RecordParts) where
+  -- nothing was stored of it
+  pub ended_without : (list : List Record) (fault : Option RecordFault) → coming ≡ Nothing → IsMadeOfGroups groups list fault → IsComingUnless fault coming parts group
+      → IsMadeOfGroups (groups ++ group ∷ []) list fault × IsComingUnless fault Nothing now []
+  ended_without list None none made come = absurd (not_empty group one (subst (λ (k : Coming). IsComingOf k parts group) none come))
+  ended_without list (Some fault) none made come = (made_past groups group list (Some fault) refl made, refl)
+
+  -- it states a record
+  pub ended_with : (list new : List Record) (fault : Option RecordFault) (r : Record) → ¬ (coming ≡ Nothing) → (IsComingOf coming parts group → IsRecordOf group r) → new ≡ list ++ r ∷ []
+      → IsMadeOfGroups groups list fault → IsComingUnless fault coming parts group → IsMadeOfGroups (groups ++ group ∷ []) new fault × IsComingUnless fault Nothing now []
+  ended_with list new None r some is pushed made come =
+      let state = is come in
+      (list_more groups list new group r made state.states state.shape state.sound pushed, refl)
+  ended_with list new (Some fault) r some is pushed made come = absurd (some come)
+
+  -- it breaks a rule
+  pub ended_refused : (list : List Record) (fault : Option RecordFault) (refusal : GroupFault) (place : ℕ) → ¬ (coming ≡ Nothing) → (IsComingOf coming parts group → IsGroupRefusal group refusal) → place ≡ length list + 1
+      → IsMadeOfGroups groups list fault → IsComingUnless fault coming parts group → IsMadeOfGroups (groups ++ group ∷ []) list (Some (fault_at place refusal))
+  ended_refused list None (GroupMemory e) place some breaks at made come = tt
+  ended_refused list None (GroupBroken rule) place some breaks at made come = list_refused groups list group rule place made (breaks come) at
+  ended_refused list (Some fault) refusal place some breaks at made come = absurd (some come)
 
 -- ---- the sheet of a file
 
-pub made_of_file : (bytes : List ℕ) (charset : Option (List ℕ)) (first list : List Record) (fault found : Option RecordFault) (Before After : List (List ZoneData) → Type 0)
-    (h : IsHandedOut bytes charset (λ groups. IsMadeOfGroups groups first None × Before groups) (λ groups. IsMadeOfGroups groups list fault × After groups)) → first ≡ [] → Before [] → fault ≡ found
-    → IsMadeOfGroups (groups_of h.zones) list found × After (groups_of h.zones)
-made_of_file bytes charset first list fault found Before After h none before is =
-    let both = h.handed [] (subst (IsListOfGroups []) (sym none) (record { states = tt; sound = tt; shape = refl }), before) in
-    (subst (IsMadeOfGroups (groups_of h.zones) list) is both.0, both.1)
+pub made_of_file : (bytes : List ℕ) (charset : Option (List ℕ)) (first last : RecordsUntilFault) (found : Option RecordFault) (Before After : List (List ZoneData) → List ZoneData → Type 0)
+    (h : IsHandedOut bytes charset (λ groups group. HoldsRecords groups group first × Before groups group) (λ groups group. HoldsRecords groups group last × After groups group)) → HoldsRecords [] [] first → Before [] [] → last.fault ≡ found
+    → IsMadeOfGroups (groups_of h.zones) last.list found × After (groups_of h.zones) []
+made_of_file bytes charset first last found Before After h none before is =
+    let both = h.handed [] (none, before) in
+    (subst (IsMadeOfGroups (groups_of h.zones) last.list) is both.0.made, both.1)
 
 pub file_unbroken : (zones : List ZoneData) (list : List Record) → IsListOfGroups (groups_of zones) list → IsUnbroken (BreaksRecordRule zones)
 file_unbroken zones list h = records_unbroken zones (λ rule place b. sound_unbroken (groups_of zones) h.sound b.before b.group b.after rule b.cut b.breaks)

@@ -4,6 +4,7 @@ pub mod Texts
 pub mod Shapes
 pub mod LinkEnds
 pub mod Records
+pub mod Titles
 pub mod Whole
 pub mod AnyRecords
 pub mod RecordRules

@@ -2,7 +2,7 @@
 
 ghost use Rattle.std.specs.Prelude.{◌≡◌, ◌∷◌, [], ◌++◌, List, IfOk, IfErr, OnOk};
 ghost use Rattle.edi_line.specs.AllBroken.{AreAllBroken};
-ghost use Rattle.edi_line.specs.ZoneData.{ZoneData, entries};
+ghost use Rattle.edi_line.specs.ZoneData.{ZoneData, entry, entries};
 ghost use Rattle.edi_line.specs.FileBytes.{file_bytes};
 ghost use Rattle.edi_line.specs.LineRules.{BreaksLineRule, IsZonesOf};
 ghost use Rattle.edi_line.specs.Refusal.{IsUnbroken, IsLineRefusal};
@@ -36,40 +36,70 @@ fn push_broken(list: &mut Vec<BrokenRule>, group: &[Zone<'_>], at: u64) -> Resul
     Ok(())
 }
 
-/// How many records have come, and each rule that they break.
+/// How many records have come, each rule that they break, and the zones of the record that is coming: some of these rules
+/// are about all of its zones.
 #[derive(Drop)]
 struct BrokenGroups {
     place: u64,
     list: Vec<BrokenRule>,
+    zones: Vec<Zone<'static>>,
 }
 
 impl BrokenGroups {
     /// No records have come.
     fn new(alloc: Global) -> BrokenGroups
-        ensures { HoldsGroups [] result }
+        ensures groups { HoldsGroups [] result }
+        ensures zones { result.zones.items ≡ [] }
     {
         BrokenGroups {
             place: 0,
             list: Vec::new(alloc),
+            zones: Vec::new(alloc),
         }
     }
 
-    /// Takes the zones of the next record.
-    fn take_group(&mut self, group: &[Zone<'_>]) -> Result<(), AllocError>
+    /// Stores the next zone of the record.
+    fn push(&mut self, alloc: Global, zone: &Zone<'_>) -> Result<(), AllocError>
+        ensures counted { OnOk result (self.new.place ≡ self.old.place) }
+        ensures list { OnOk result (self.new.list ≡ self.old.list) }
+        ensures zones { OnOk result (entries self.new.zones.items
+            ≡ entries self.old.zones.items ++ entry zone.now ∷ []) }
+    {
+        self.zones.push(zone.copied(alloc)?)?;
+        Ok(())
+    }
+
+    /// All zones of the record have come.
+    fn take_group(&mut self) -> Result<(), AllocError>
         ensures { OnOk result ((groups : List (List ZoneData)) → HoldsGroups groups self.old
-            → HoldsGroups (groups ++ entries group.now ∷ []) self.new) }
+            → HoldsGroups (groups ++ entries self.old.zones.items ∷ []) self.new) }
     {
         self.place = self.place.saturating_add(1);
-        push_broken(&mut self.list, group, self.place)?;
+        push_broken(&mut self.list, &self.zones, self.place)?;
         Ok(())
     }
 }
 
 impl GroupOut for BrokenGroups {
-    ghost Holds = { λ broken groups. HoldsGroups groups broken };
+    ghost use Rattle.std.specs.Prelude.{◌≡◌};
+    ghost use Rattle.edi_line.specs.ZoneData.{entries};
+    ghost use Rattle.edi_record.specs.inner.AllBroken.{HoldsGroups};
 
-    fn take(&mut self, _alloc: Global, group: &[Zone<'_>]) -> Result<(), AllocError> {
-        self.take_group(group)
+    ghost Holds = { λ broken groups group. HoldsGroups groups broken × (entries broken.zones.items ≡ group) };
+
+    fn begin(&mut self, alloc: Global, head: &Zone<'_>) -> Result<(), AllocError> {
+        self.zones.clear();
+        self.push(alloc, head)
+    }
+
+    fn take(&mut self, alloc: Global, zone: &Zone<'_>) -> Result<(), AllocError> {
+        self.push(alloc, zone)
+    }
+
+    fn end(&mut self, _alloc: Global) -> Result<(), AllocError> {
+        self.take_group()?;
+        self.zones.clear();
+        Ok(())
     }
 }
 

@@ -78,7 +78,6 @@ impl Draft {
         ensures keeps { (parts : Parts) (group : List ZoneData) → AreEmpty parts
             → StoresRecord (kept result parts) group group }
         ensures kind { result.kind ≡ kind }
-        ensures counted { result.counted ≡ 0 }
     {
         Draft {
             kind,
@@ -101,9 +100,7 @@ impl Draft {
         parts: &mut RecordParts,
         zone: &Zone<'_>,
     ) -> Result<(), AllocError>
-        requires { self.old.counted + 1 < 2 ^ 64 }
         ensures kind { OnOk result (self.new.kind ≡ self.old.kind) }
-        ensures counted { OnOk result (self.new.counted ≤ self.old.counted + 1) }
         ensures keeps { OnOk result ((left group : List ZoneData)
             → StoresRecord (kept self.old parts.old) (entry zone.now ∷ left) group
             → StoresRecord (kept self.new parts.new) left group) }
@@ -128,11 +125,11 @@ impl Draft {
             }
             ZoneRole::BodyCount => take_count(&mut self.body_count, text),
             ZoneRole::Position => {
-                self.counted += 1;
+                self.counted = next_count(self.counted)?;
                 self.points.take(&mut parts.points, text)?;
             }
             ZoneRole::EndPointer => {
-                self.counted += 1;
+                self.counted = next_count(self.counted)?;
                 self.ends
                     .take_pointer(&mut parts.texts, &mut parts.ends, text)?;
             }
@@ -176,6 +173,16 @@ impl Draft {
             rid,
             scp,
         })
+    }
+}
+
+/// The next count. No memory has room for as many points or ends as can't be counted.
+fn next_count(counted: usize) -> Result<usize, AllocError>
+    ensures { IfOk result (λ next. next ≡ counted + 1) }
+{
+    match counted.checked_add(1) {
+        Some(next) => Ok(next),
+        None => Err(AllocError),
     }
 }
 

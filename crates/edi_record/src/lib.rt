@@ -36,6 +36,7 @@ pub mod sheet;
 pub mod sheet_records;
 pub mod sheet_rest;
 mod stating;
+pub mod title;
 mod words;
 
 pub use any_record::AnyRecordRef;
@@ -60,3 +61,4 @@ pub use record_ref::RecordRef;
 pub use sheet::Sheet;
 pub use sheet_records::SheetRecords;
 pub use sheet_rest::SheetRest;
+pub use title::RecordTitle;

@@ -1,7 +1,8 @@
 //! The records of a file, made while its lines are read.
 
-ghost use Rattle.std.specs.Prelude.{◌≡◌, ℕ, List, [], IfOk, IfErr, OnOk, ⊤};
-ghost use Rattle.edi_line.specs.ZoneData.{ZoneData};
+ghost use Rattle.std.specs.Prelude.{◌≡◌, ℕ, List, [], ◌∷◌, true, Ok, None, IfOk, IfErr, OnOk, ⊤};
+ghost use Rattle.edi_line.specs.ZoneData.{ZoneData, entry};
+ghost use Rattle.edi_line.specs.Zones.{begins_group};
 ghost use Rattle.edi_line.specs.FileBytes.{file_bytes};
 ghost use Rattle.edi_line.specs.LineRules.{BreaksLineRule, IsZonesOf};
 ghost use Rattle.edi_line.specs.Refusal.{IsUnbroken};
@@ -9,44 +10,107 @@ ghost use Rattle.edi_record.specs.RecordRefusal.{IsSheetRefusal};
 ghost use Rattle.edi_record.specs.RecordRules.{BreaksRecordRule};
 ghost use Rattle.edi_record.specs.Records.{StatesSheet};
 ghost use Rattle.edi_record.specs.Observers.{SawAll};
-ghost use Rattle.edi_record.specs.inner.Lists.{IsMadeOfGroups};
+ghost use Rattle.edi_line.specs.Groups.{IsOneRecord};
+ghost use Rattle.edi_record.specs.inner.Lists.{HoldsRecords, IsComingOf, IsFinished};
+ghost use Rattle.edi_record.specs.inner.RecordParts.{AreEmpty};
+ghost use Rattle.edi_record.specs.inner.RecordRefusal.{IsGroupRefusal};
+ghost use Rattle.edi_record.specs.declared.list.Coming.TheVariants.{Nothing};
+ghost use Rattle.edi_record.specs.declared.record_parts.RecordParts.{RecordParts as Parts};
 
+use crate::draft::Draft;
 use crate::fault::{GroupFault, RecordFault, SheetFault};
-use crate::record_parts::RecordParts;
+use crate::record_parts::{RecordHead, RecordParts};
 use crate::sheet::Sheet;
 use crate::sheet_records::SheetRecords;
-use crate::stating::record_of;
+use crate::stating::kind_named;
 use edi_line::{FileBytes, GroupOut, Zone, read_groups_from};
 use std::alloc::{AllocError, Global};
 use std::borrow::CowSlice;
 
-/// The records of the zones that have come, until one breaks a rule, which is then the fault.
+/// What is stored of the record that is coming: nothing where none is, or where an earlier one breaks a rule.
+#[derive(Drop)]
+enum Coming {
+    Nothing,
+    WithoutKind,
+    Stored(Draft),
+}
+
+/// The records of the zones that have come, until one breaks a rule or lacks memory, which is then the fault: the lines
+/// are still gone through, since a broken rule of lines comes first.
 #[derive(Drop)]
 struct RecordsUntilFault {
     list: SheetRecords,
     fault: Option<RecordFault>,
-    /// For the parts of the next record.
+    coming: Coming,
+    /// The parts of the record that is coming.
     parts: RecordParts,
 }
 
-impl GroupOut for RecordsUntilFault {
-    ghost Holds = { λ records groups. IsMadeOfGroups groups records.list records.fault };
+impl RecordsUntilFault {
+    /// No zones have come.
+    fn new(alloc: Global) -> RecordsUntilFault
+        ensures { HoldsRecords [] [] result }
+    {
+        RecordsUntilFault {
+            list: SheetRecords::new(alloc),
+            fault: None,
+            coming: Coming::Nothing,
+            parts: RecordParts::new(alloc),
+        }
+    }
+}
 
-    fn take(&mut self, alloc: Global, group: &[Zone<'_>]) -> Result<(), AllocError> {
-        let [head, behind @ ..] = group else {
-            return Ok(());
-        };
+/// What is stored of a record that begins, before it has parts.
+fn coming_of(head: &Zone<'_>) -> Coming
+    requires { begins_group (entry head.now) ≡ true }
+    ensures { (parts : Parts) → AreEmpty parts → IsComingOf result parts (entry head.now ∷ []) }
+{
+    match kind_named(head.value.as_slice()) {
+        Some(kind) => Coming::Stored(Draft::new(kind)),
+        None => Coming::WithoutKind,
+    }
+}
+
+/// The record that was coming, but for its parts, if one was; or the least of the rules 201 to 208 that it breaks.
+fn finish(coming: &mut Coming, parts: &mut RecordParts) -> Result<Option<RecordHead>, GroupFault>
+    ensures nothing { coming.old ≡ Nothing → result ≡ Ok None }
+    ensures states { IfOk result (λ made. IsFinished coming.old parts.old made parts.new) }
+    ensures least { IfErr result (λ fault. (group : List ZoneData) → IsOneRecord group
+        → IsComingOf coming.old parts.old group → IsGroupRefusal group fault) }
+{
+    match coming {
+        Coming::Nothing => Ok(None),
+        Coming::WithoutKind => Err(GroupFault::Broken(201)),
+        Coming::Stored(draft) => Ok(Some(draft.finish(parts)?)),
+    }
+}
+
+impl GroupOut for RecordsUntilFault {
+    ghost Holds = { λ records groups group. HoldsRecords groups group records };
+
+    fn begin(&mut self, alloc: Global, head: &Zone<'_>) -> Result<(), AllocError> {
         if self.fault.is_some() {
             return Ok(());
         }
         self.parts.clear(alloc);
-        match record_of(alloc, &mut self.parts, head, behind) {
-            Ok((record, _)) => self.list.push(record, &mut self.parts)?,
-            Err(GroupFault::Memory(fault)) => return Err(fault),
-            Err(GroupFault::Broken(rule)) => {
-                let at = self.list.len() as u64 + 1;
-                self.fault = Some(RecordFault::Broken { rule, at });
-            }
+        self.coming = coming_of(head);
+        Ok(())
+    }
+
+    fn take(&mut self, alloc: Global, zone: &Zone<'_>) -> Result<(), AllocError> {
+        if let Coming::Stored(draft) = &mut self.coming {
+            draft.take(alloc, &mut self.parts, zone)?;
+        }
+        Ok(())
+    }
+
+    fn end(&mut self, _alloc: Global) -> Result<(), AllocError> {
+        let made = finish(&mut self.coming, &mut self.parts);
+        self.coming = Coming::Nothing;
+        match made {
+            Ok(None) => {}
+            Ok(Some(record)) => self.list.push(record, &mut self.parts)?,
+            Err(fault) => self.fault = Some(fault.at(self.list.len() as u64 + 1)),
         }
         Ok(())
     }
@@ -60,11 +124,23 @@ struct RecordsAndOther<O> {
 }
 
 impl<O: GroupOut> GroupOut for RecordsAndOther<O> {
-    ghost Holds = { λ both groups. IsMadeOfGroups groups both.records.list both.records.fault × O.Holds both.other groups };
+    ghost Holds = { λ both groups group. HoldsRecords groups group both.records × O.Holds both.other groups group };
 
-    fn take(&mut self, alloc: Global, group: &[Zone<'_>]) -> Result<(), AllocError> {
-        self.records.take(alloc, group)?;
-        self.other.take(alloc, group)?;
+    fn begin(&mut self, alloc: Global, head: &Zone<'_>) -> Result<(), AllocError> {
+        self.records.begin(alloc, head)?;
+        self.other.begin(alloc, head)?;
+        Ok(())
+    }
+
+    fn take(&mut self, alloc: Global, zone: &Zone<'_>) -> Result<(), AllocError> {
+        self.records.take(alloc, zone)?;
+        self.other.take(alloc, zone)?;
+        Ok(())
+    }
+
+    fn end(&mut self, alloc: Global) -> Result<(), AllocError> {
+        self.records.end(alloc)?;
+        self.other.end(alloc)?;
         Ok(())
     }
 }
@@ -74,9 +150,17 @@ impl<O: GroupOut> GroupOut for RecordsAndOther<O> {
 pub struct NoObserver;
 
 impl GroupOut for NoObserver {
-    ghost Holds = { λ nothing groups. ⊤ };
+    ghost Holds = { λ nothing groups group. ⊤ };
 
-    fn take(&mut self, _alloc: Global, _group: &[Zone<'_>]) -> Result<(), AllocError> {
+    fn begin(&mut self, _alloc: Global, _head: &Zone<'_>) -> Result<(), AllocError> {
+        Ok(())
+    }
+
+    fn take(&mut self, _alloc: Global, _zone: &Zone<'_>) -> Result<(), AllocError> {
+        Ok(())
+    }
+
+    fn end(&mut self, _alloc: Global) -> Result<(), AllocError> {
         Ok(())
     }
 }
@@ -85,7 +169,7 @@ impl GroupOut for NoObserver {
 /// rule of lines (101 to 110) with its line, or else of records (201 to 208) with its record, both counted from 1
 /// (docs/FORMAT.md, "The order of the rules").
 ///
-/// It answers as `zones` and then `records` do, and the zones of one record alone are in memory at a time.
+/// It answers as `zones` and then `records` do, and no more than a few zones are in memory at a time.
 pub fn read_sheet(alloc: Global, bytes: &[u8]) -> Result<Sheet, SheetFault>
     ensures sheet { IfOk result (λ sheet. (zones : List ZoneData) × IsZonesOf bytes.now zones × StatesSheet zones sheet) }
     ensures lines { OnOk result (IsUnbroken (BreaksLineRule bytes.now)) }
@@ -103,7 +187,7 @@ pub fn read_sheet_with<O: GroupOut + Drop>(
     bytes: &[u8],
     other: O,
 ) -> Result<(Sheet, O), SheetFault>
-    requires none_taken { O.Holds other [] }
+    requires none_taken { O.Holds other [] [] }
     ensures sheet { IfOk result (λ read. (zones : List ZoneData) × IsZonesOf bytes.now zones × StatesSheet zones read.0) }
     ensures other { IfOk result (λ read. SawAll bytes.now (O.Holds read.1)) }
     ensures lines { OnOk result (IsUnbroken (BreaksLineRule bytes.now)) }
@@ -121,7 +205,7 @@ pub fn read_sheet_from<O: GroupOut + Drop>(
     file: FileBytes<'_>,
     other: O,
 ) -> Result<(Sheet, O), SheetFault>
-    requires none_taken { O.Holds other [] }
+    requires none_taken { O.Holds other [] [] }
     ensures sheet { IfOk result (λ read. (zones : List ZoneData) × IsZonesOf (file_bytes file.entry) zones
         × StatesSheet zones read.0) }
     ensures other { IfOk result (λ read. SawAll (file_bytes file.entry) (O.Holds read.1)) }
@@ -131,11 +215,7 @@ pub fn read_sheet_from<O: GroupOut + Drop>(
     ensures refusal { IfErr result (IsSheetRefusal (file_bytes file.entry)) }
 {
     let mut both = RecordsAndOther {
-        records: RecordsUntilFault {
-            list: SheetRecords::new(alloc),
-            fault: None,
-            parts: RecordParts::new(alloc),
-        },
+        records: RecordsUntilFault::new(alloc),
         other,
     };
     let cse = read_groups_from(alloc, file, &mut both)?;

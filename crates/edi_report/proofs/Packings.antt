@@ -4,7 +4,7 @@ use Rattle.std.proofs.lemmas.Bool.{cases_lt}
 use Rattle.std.proofs.lemmas.List.{take_all, drop_all, take-append-drop, append-nil}
 use Rattle.edi_report.specs.inner.PackedSites.{IsPackingOf, site_in}
 use Rattle.edi_report.specs.inner.Packing.{packed_number, ArePacked, IsPackedSite, last_of, start}
-use Rattle.edi_report.specs.declared.packed.PackedSites.{PackedSites}
+use Rattle.edi_report.specs.declared.packed.Packing.{Packing}
 use Rattle.edi_report.specs.declared.site.Site.{Site}
 
 -- ---- numbers
@@ -141,7 +141,7 @@ last_pushed : (before : Site) (sites : List Site) (site : Site) → last_of befo
 last_pushed before [] site = refl
 last_pushed before (first ∷ sites) site = last_pushed first sites site
 
-pub packing_pushed : (packed after : PackedSites) (sites : List Site) (site : Site) (step : List ℕ) → IsPackingOf packed sites → IsPackedSite (site_in packed.last) site step []
+pub packing_pushed : (packed after : Packing) (sites : List Site) (site : Site) (step : List ℕ) → IsPackingOf packed sites → IsPackedSite (site_in packed.last) site step []
     → after.bytes.items ≡ packed.bytes.items ++ step → site_in after.last ≡ site → IsPackingOf after (sites ++ site ∷ [])
 packing_pushed packed after sites site step is more bytes last = record {
   sites_are = subst (ArePacked start (sites ++ site ∷ [])) (sym bytes)

@@ -1,10 +1,11 @@
 -- The sites of the records of a file.
-use Rattle.std.proofs.Common.{◌≡◌, ℕ, List, [], ◌∷◌, ◌++◌, length, sym, ap, ◌∙◌, subst, unwrap_or, codes}
+use Rattle.std.proofs.Common.{◌≡◌, ℕ, List, [], ◌∷◌, ◌++◌, length, sym, ap, ◌∙◌, subst, unwrap_or}
 use Rattle.std.specs.List.{AllZip}
-use Rattle.edi_line.specs.ZoneData.{ZoneData, first}
+use Rattle.edi_line.specs.ZoneData.{ZoneData}
 use Rattle.edi_line.specs.Zones.{groups_of}
 use Rattle.edi_line.proofs.ZonesSaid.{zones_of_one}
-use Rattle.edi_record.specs.Records.{States, values}
+use Rattle.edi_record.specs.Records.{States}
+use Rattle.edi_record.specs.Titles.{IsTitleOf, TitleData}
 use Rattle.edi_schema.specs.Classes.{Classes}
 use Rattle.edi_plan.specs.Plans.{PlanData}
 use Rattle.edi_plan.specs.PlanOf.{StatesPlanRecord}
@@ -22,8 +23,15 @@ site_push [] (y ∷ sites) g s h k = absurd h
 site_push (x ∷ groups) [] g s h k = absurd h
 site_push (x ∷ groups) (y ∷ sites) g s h k = (h.0, site_push groups sites g s h.1 k)
 
-pub one_site : (group rest : List ZoneData) (head : ZoneData) (site : Site) → group ≡ head ∷ rest → site.line ≡ head.line → site.rid ≡ unwrap_or (first (values (codes "RID") group)) [] → IsSite group site
-one_site group rest head site cut line rid = record { head = head; rest = rest; is = cut; line = line; rid = rid }
+-- the site of a record that says this of itself
+pub titled_site : (group : List ZoneData) (title : TitleData) (site : Site) → IsTitleOf group title → site.line ≡ title.line → site.rid ≡ unwrap_or title.rid [] → IsSite group site
+titled_site group title site is line rid = record {
+  head = is.head;
+  rest = is.rest;
+  is = is.is;
+  line = line ∙ is.line;
+  rid = rid ∙ ap (λ r. unwrap_or r []) is.rid;
+}
 
 pub sites_long : (s : Classes) (b : List ℕ) (p : PlanData) (sites : List Site) → IsPlanOfFile s b p → AreSitesOf b sites → length sites ≡ length p.list
 sites_long s b p sites plan are =

@@ -1,13 +1,14 @@
 //! The sites of a sheet's records, packed while the sheet is read.
 
-ghost use Rattle.std.specs.Prelude.{◌≡◌, ◌≤◌, ◌<◌, ◌++◌, ◌∷◌, [], List, IfOk, OnOk, length, take};
+ghost use Rattle.std.specs.Prelude.{◌≡◌, ◌≤◌, ◌<◌, ◌++◌, ◌∷◌, [], List, IfOk, OnOk, length, take, unwrap_or};
 ghost use Rattle.edi_report.specs.declared.site.Site.{Site};
 ghost use Rattle.edi_report.specs.inner.Packing.{IsFirstSite, start};
 ghost use Rattle.edi_report.specs.inner.PackedSites.{IsPackingOf, PacksSitesOf, site_in};
 
 use crate::numbers::{first_packed_number, push_packed_number};
-use crate::site::{Site, identifier_of};
+use crate::site::Site;
 use edi_line::{GroupOut, Text, Zone};
+use edi_record::RecordTitle;
 use std::alloc::{AllocError, Global};
 
 /// The site that the next one is packed or unpacked behind.
@@ -44,26 +45,21 @@ impl LastSite {
     }
 }
 
-/// The sites of the records that have come. Each is stored as it differs from the one before: how many lines further on
-/// it stands, how many bytes of that one's identifier it keeps, how many new ones come behind these, and the new ones.
-/// So a site mostly takes four bytes to nine, where a `Site` takes 24.
-pub(crate) struct PackedSites {
+/// Sites, each stored as it differs from the one before: how many lines further on it stands, how many bytes of that
+/// one's identifier it keeps, how many new ones come behind these, and the new ones. So a site mostly takes four bytes to
+/// nine, where a `Site` takes 24.
+#[derive(Drop)]
+struct Packing {
     bytes: Vec<u8>,
     last: LastSite,
 }
 
-impl Drop for PackedSites {
-    fn drop(self) {
-        let PackedSites { bytes: _, last: _ } = self;
-    }
-}
-
-impl PackedSites {
-    /// No sites, before the first record.
-    pub(crate) fn new(alloc: Global) -> PackedSites
-        ensures { PacksSitesOf result [] }
+impl Packing {
+    /// No sites.
+    fn new(alloc: Global) -> Packing
+        ensures { IsPackingOf result [] }
     {
-        PackedSites {
+        Packing {
             bytes: Vec::new(alloc),
             last: LastSite::start(alloc),
         }
@@ -87,7 +83,7 @@ impl PackedSites {
     }
 
     /// The sites, in file order. As much memory as `count` of them take is asked for at once.
-    pub(crate) fn unpack(&self, alloc: Global, count: usize) -> Result<Vec<Site>, AllocError>
+    fn unpack(&self, alloc: Global, count: usize) -> Result<Vec<Site>, AllocError>
         ensures { IfOk result (λ list. (sites : List Site) → IsPackingOf self.now sites → list.items ≡ sites) }
     {
         let mut list = Vec::new(alloc);
@@ -104,17 +100,62 @@ impl PackedSites {
         Ok(list)
     }
 }
+/// The sites of the records that have come, packed, and what the one that is coming says of itself.
+pub(crate) struct PackedSites {
+    packing: Packing,
+    title: RecordTitle,
+}
+
+impl Drop for PackedSites {
+    fn drop(self) {
+        let PackedSites {
+            packing: _,
+            title: _,
+        } = self;
+    }
+}
+
+impl PackedSites {
+    /// No sites, before the first record.
+    pub(crate) fn new(alloc: Global) -> PackedSites
+        ensures { PacksSitesOf result [] [] }
+    {
+        PackedSites {
+            packing: Packing::new(alloc),
+            title: RecordTitle::new(alloc),
+        }
+    }
+
+    /// The sites, in file order. As much memory as `count` of them take is asked for at once.
+    pub(crate) fn unpack(&self, alloc: Global, count: usize) -> Result<Vec<Site>, AllocError>
+        ensures { IfOk result (λ list. (sites : List Site) → IsPackingOf self.now.packing sites → list.items ≡ sites) }
+    {
+        self.packing.unpack(alloc, count)
+    }
+}
 
 impl GroupOut for PackedSites {
     ghost Holds = { PacksSitesOf };
 
-    fn take(&mut self, _alloc: Global, group: &[Zone<'_>]) -> Result<(), AllocError> {
-        let [head, ..] = group else {
-            return Ok(());
-        };
-        self.push(head.line, identifier_of(group))?;
-        Ok(())
+    fn begin(&mut self, _alloc: Global, head: &Zone<'_>) -> Result<(), AllocError> {
+        self.title.begin(head)
     }
+
+    fn take(&mut self, _alloc: Global, zone: &Zone<'_>) -> Result<(), AllocError> {
+        self.title.take(zone)
+    }
+
+    fn end(&mut self, _alloc: Global) -> Result<(), AllocError> {
+        self.packing
+            .push(self.title.line(), identifier_of(&self.title))
+    }
+}
+
+/// The first identifier of a record that says this of itself, or nothing.
+fn identifier_of(title: &RecordTitle) -> &[u8]
+    ensures { result.now ≡ unwrap_or title.now.rid [] }
+{
+    title.rid().unwrap_or(b"")
 }
 
 /// How many bytes both texts begin with alike.

@@ -5,7 +5,7 @@ use Rattle.edi_line.specs.Zones.{groups_of}
 use Rattle.edi_record.specs.Texts.{PointerText, shown}
 use Rattle.edi_explain.specs.Elsewhere.{HasNamedAmong}
 use Rattle.edi_explain.specs.inner.Elsewhere.{name_signature}
-use Rattle.edi_explain.proofs.LinkEnds.{named_in_file, nothing_there, signed}
+use Rattle.edi_explain.proofs.LinkEnds.{at_first, named_in_file, nothing_there, signed}
 use Rattle.edi_explain.proofs.elsewhere.has_named.Goals as goal
 
 pub returns-in-Ok : goal.returns-in-Ok
@@ -14,7 +14,7 @@ returns-in-Ok c =
     let p = shown c.args.pointer in
     let sought = c.read_groups.new.out in
     let come = groups_of h.zones in
-    let held = h.handed (name_signature p ∷ []) (refl, c.none.ensures, (λ i. absurd cc, λ a. absurd (nothing_there _ a))) in
+    let held = h.handed (name_signature p ∷ []) (refl, at_first c.none.result c.none.ensures, (λ i. absurd cc, λ a. absurd (nothing_there _ a)), λ none. let e = none.joined in absurd cc) in
     named_in_file c.args.bytes.now p c.in-Ok.ensures.sound h.zones h.of_file c.is_found.result
     (subst (λ (q : PointerText). IsTrue c.is_found.result ↔ HasNamedAmong come q) (sym (signed p (shown sought.pointer) held.0)) (c.is_found.ensures (name_signature p) come held))
 

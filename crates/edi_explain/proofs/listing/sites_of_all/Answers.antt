@@ -13,4 +13,4 @@ unreachable-requires c =
 pub returns-in-Ok : goal.returns-in-Ok
 returns-in-Ok c =
     let h = c.in-Ok.ensures.groups in
-    (h.zones, h.of_file, h.handed [] (subst (λ (sites : List RecordSite). AreAllSites [] sites) (sym c.new.ensures.items) tt))
+    (h.zones, h.of_file, (h.handed [] (record { sites = subst (λ (sites : List RecordSite). AreAllSites [] sites) (sym c.new.ensures.items) tt; title = λ none. let e = none.joined in absurd cc })).sites)

@@ -5,11 +5,11 @@ use Rattle.edi_line.specs.ZoneData.{ZoneData, entries}
 use Rattle.edi_line.specs.LineRules.{BreaksIn, BreaksLineRule}
 use Rattle.edi_line.specs.Refusal.{IsLeastBroken}
 use Rattle.edi_line.specs.Spelling.{Reading}
-use Rattle.edi_line.specs.Zones.{groups_of}
-use Rattle.edi_line.specs.inner.HandingOn.{IsAtLines, IsInner}
+use Rattle.edi_line.specs.inner.Groups.{handed_at_first, with_zones}
+use Rattle.edi_line.specs.inner.HandingOn.{IsAtLines}
 use Rattle.edi_line.specs.inner.Zones.{readings_of}
 use Rattle.edi_line.proofs.Feeds.{if_broken}
-use Rattle.edi_line.proofs.HandedOn.{all_handed, end_refused, end_unbroken, handed_by, room_left}
+use Rattle.edi_line.proofs.HandedOn.{all_handed, behind_others, end_refused, end_unbroken, room_left}
 use Rattle.edi_line.proofs.Passes.{EndFault}
 use Rattle.edi_line.proofs.Readings.{least_said}
 use Rattle.edi_line.proofs.groups.read_last.Goals as goal
@@ -17,24 +17,24 @@ use Rattle.edi_line.proofs.groups.read_last.Goals as goal
 pub read_lines-requires : goal.read_lines-requires
 read_lines-requires g c =
     let asked = c.requires in
-    (asked.0, [], asked.1, subst (λ ls. IsAtLines asked.0 ls asked.1 c.args.reader c.args.charset) (sym (append-nil (readings_of c.args.bytes.now))) asked.2, asked.3)
+    (asked.0, [], asked.1, subst (λ ls. IsAtLines asked.0 ls asked.1 c.args.reader c.args.handing) (sym (append-nil (readings_of c.args.bytes.now))) asked.2, asked.3)
 
 pub returns-in_err-reader-clause-least : goal.returns-in_err-reader-clause-least
 returns-in_err-reader-clause-least g c =
     let p = err_from_is_err_and c.from_residual.result c.from_residual.ensures.1 in
     let all = readings_of c.args.bytes.now in
     rw (p.1, p.2) (if_broken
-    (λ rule place. (lines left : List Reading) (given : List ZoneData) → IsAtLines lines (all ++ left) given c.args.reader c.args.charset → IsLeastBroken (BreaksIn lines) rule place)
-    (λ rule place. (file : List ℕ) (given : List ZoneData) → IsAtLines (readings_of file) all given c.args.reader c.args.charset → IsLeastBroken (BreaksLineRule file) rule place)
-    (λ rule place refused file given at. least_said file rule place (refused (readings_of file) [] given (subst (λ ls. IsAtLines (readings_of file) ls given c.args.reader c.args.charset) (sym (append-nil all)) at)))
+    (λ rule place. (lines left : List Reading) (given : List ZoneData) → IsAtLines lines (all ++ left) given c.args.reader c.args.handing → IsLeastBroken (BreaksIn lines) rule place)
+    (λ rule place. (file : List ℕ) (given : List ZoneData) → IsAtLines (readings_of file) all given c.args.reader c.args.handing → IsLeastBroken (BreaksLineRule file) rule place)
+    (λ rule place refused file given at. least_said file rule place (refused (readings_of file) [] given (subst (λ ls. IsAtLines (readings_of file) ls given c.args.reader c.args.handing) (sym (append-nil all)) at)))
     c.in_err-reader.field-0.0 c.in_err-reader.ensures.broken)
 
 pub finish-requires : goal.finish-requires
 finish-requires g c =
     let asked = c.requires in
-    let at = subst (λ ls. IsAtLines asked.0 ls asked.1 c.args.reader c.args.charset) (sym (append-nil (readings_of c.args.bytes.now))) asked.2 in
+    let at = subst (λ ls. IsAtLines asked.0 ls asked.1 c.args.reader c.args.handing) (sym (append-nil (readings_of c.args.bytes.now))) asked.2 in
     let went = c.in_ok-reader.ensures.ok asked.0 [] asked.1 at in
-    omega (arith, asked.3, room_left asked.0 [] went.given_now c.in_ok-reader.reader c.read_lines.new.charset went.at)
+    omega (arith, asked.3, room_left asked.0 [] went.given_now c.in_ok-reader.reader c.read_lines.new.handing went.at)
 
 pub returns-in_err-zones-clause-least : goal.returns-in_err-zones-clause-least
 returns-in_err-zones-clause-least g c =
@@ -42,35 +42,34 @@ returns-in_err-zones-clause-least g c =
     let all = readings_of c.args.bytes.now in
     let reader = c.in_ok-reader.reader in
     rw (p.1, p.2) (if_broken (EndFault reader)
-    (λ rule place. (file : List ℕ) (given : List ZoneData) → IsAtLines (readings_of file) all given c.args.reader c.args.charset → IsLeastBroken (BreaksLineRule file) rule place)
+    (λ rule place. (file : List ℕ) (given : List ZoneData) → IsAtLines (readings_of file) all given c.args.reader c.args.handing → IsLeastBroken (BreaksLineRule file) rule place)
     (λ rule place lacks file given at.
-    (let went = c.in_ok-reader.ensures.ok (readings_of file) [] given (subst (λ ls. IsAtLines (readings_of file) ls given c.args.reader c.args.charset) (sym (append-nil all)) at) in
-    end_refused file went.given_now reader c.read_lines.new.charset rule place lacks went.at))
+    (let went = c.in_ok-reader.ensures.ok (readings_of file) [] given (subst (λ ls. IsAtLines (readings_of file) ls given c.args.reader c.args.handing) (sym (append-nil all)) at) in
+    end_refused file went.given_now reader c.read_lines.new.handing rule place lacks went.at))
     c.in_err-zones.field-0.0 c.in_err-zones.ensures.broken)
-
-pub hand_on-requires : goal.hand_on-requires
-hand_on-requires g c =
-    let asked = c.requires in
-    let at = subst (λ ls. IsAtLines asked.0 ls asked.1 c.args.reader c.args.charset) (sym (append-nil (readings_of c.args.bytes.now))) asked.2 in
-    let went = c.in_ok-reader.ensures.ok asked.0 [] asked.1 at in
-    subst IsInner (sym (ap entries c.deref.ensures.value ∙ c.in_ok-zones.ensures.ok.0)) went.at.inner
 
 pub returns-clause-groups : goal.returns-clause-groups
 returns-clause-groups g c =
     let all = readings_of c.args.bytes.now in
     let reader = c.in_ok-reader.reader in
+    let handing = c.read_lines.new.handing in
     let Before = g.O.GroupOut.Holds c.args.out.now in
     let Between = g.O.GroupOut.Holds c.read_lines.new.out in
-    let After = g.O.GroupOut.Holds c.hand_on.new.out in
+    let After = g.O.GroupOut.Holds c.end.new.out in
     λ file given at.
-    (let went = c.in_ok-reader.ensures.ok (readings_of file) [] given (subst (λ ls. IsAtLines (readings_of file) ls given c.args.reader c.args.charset) (sym (append-nil all)) at) in
-    handed_by file c.hand_on.new.charset (λ groups. Before (groups ++ groups_of given)) (λ groups. Between (groups ++ groups_of went.given_now)) After went.handed
-    (all_handed file went.given_now (entries c.deref.result.now) reader c.read_lines.new.charset c.hand_on.new.charset Between After
-    (ap entries c.deref.ensures.value ∙ c.in_ok-zones.ensures.ok.0) c.in_ok-zones.ensures.ok.1 c.in_ok-hand_on.ensures.charset c.in_ok-hand_on.ensures.groups went.at))
+    (let went = c.in_ok-reader.ensures.ok (readings_of file) [] given (subst (λ ls. IsAtLines (readings_of file) ls given c.args.reader c.args.handing) (sym (append-nil all)) at) in
+    let s = with_zones handed_at_first went.given_now in
+    let zones = entries c.deref.result.now in
+    let handed = c.in_ok-hand_all_on.ensures.state s went.at.state in
+    behind_others given went.given_now file c.end.new.self.charset Before Between After went.handed
+    (all_handed file went.given_now zones reader handing c.end.new.self Between After
+    (ap entries c.deref.ensures.value ∙ c.in_ok-zones.ensures.ok.0) c.in_ok-zones.ensures.ok.1
+    (c.in_ok-end.ensures.state (with_zones s zones) handed)
+    (λ groups before. c.in_ok-end.ensures.keeps (with_zones s zones) groups handed (c.in_ok-hand_all_on.ensures.keeps s groups went.at.state before)) went.at))
 
 pub returns-clause-sound : goal.returns-clause-sound
 returns-clause-sound g c =
     let all = readings_of c.args.bytes.now in
     λ file given at.
-    (let went = c.in_ok-reader.ensures.ok (readings_of file) [] given (subst (λ ls. IsAtLines (readings_of file) ls given c.args.reader c.args.charset) (sym (append-nil all)) at) in
-    end_unbroken file went.given_now c.in_ok-reader.reader c.read_lines.new.charset c.in_ok-zones.ensures.ok.1 went.at)
+    (let went = c.in_ok-reader.ensures.ok (readings_of file) [] given (subst (λ ls. IsAtLines (readings_of file) ls given c.args.reader c.args.handing) (sym (append-nil all)) at) in
+    end_unbroken file went.given_now c.in_ok-reader.reader c.read_lines.new.handing c.in_ok-zones.ensures.ok.1 went.at)

@@ -1,4 +1,4 @@
-use Rattle.std.proofs.Common.{◌≡◌, ◌∙◌, ◌∷◌, [], ◌+◌, drop, inl, refl, sym, ap, subst, codes, arith, Some}
+use Rattle.std.proofs.Common.{◌≡◌, ◌∙◌, ◌∷◌, [], ◌+◌, drop, inl, refl, sym, ap, subst, codes, Some}
 use Rattle.std.proofs.lemmas.Slice.Eq.{bytes_eq-Decides}
 use Rattle.edi_line.specs.ZoneData.{entry, entries}
 use Rattle.edi_line.specs.Zones.{before_end, groups_of}
@@ -19,7 +19,6 @@ loop-zone-init c =
     record {
       own = refl;
       kind = refl;
-      counted = omega (arith, c.new-draft.ensures.counted);
       keeps = skipped (kept c.new-draft.result c.args.parts.now) head left (head ∷ left) (inl ((bytes_eq-Decides head.code (codes "RTY")).0 c.requires.begins)) (c.new-draft.ensures.keeps c.args.parts.now (head ∷ left) c.requires.empty);
       left = refl;
     }
@@ -35,7 +34,6 @@ loop-zone-preserved c =
     record {
       own = ap (λ n. n + 1) so_far.own;
       kind = c.in_ok-take.ensures.kind ∙ so_far.kind;
-      counted = omega (arith, c.in_ok-take.ensures.counted, so_far.counted);
       keeps = c.in_ok-take.ensures.keeps (before_end after) group (subst (λ zs. StoresRecord (kept c.loop-zone.draft c.loop-zone.parts) zs group) (ap before_end next ∙ goes_on zone after inner) so_far.keeps);
       left = sym (ap groups_of next ∙ no_group zone after inner) ∙ so_far.left;
     }

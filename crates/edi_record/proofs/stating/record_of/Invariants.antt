@@ -1,4 +1,4 @@
-use Rattle.std.proofs.Common.{◌≡◌, ◌∷◌, ◌≤◌, drop}
+use Rattle.std.proofs.Common.{◌≡◌, ◌∷◌, drop}
 use Rattle.edi_line.specs.ZoneData.{entry, entries}
 use Rattle.edi_line.specs.Zones.{before_end, groups_of}
 use Rattle.edi_record.specs.inner.Stored.{StoresRecord, kept}
@@ -8,7 +8,6 @@ abbrev pub invariant-loop-zone : goal.invariant-loop-zone
 invariant-loop-zone l = record {
   own : l.own ≡ l.zone-index;
   kind : l.draft.kind ≡ l.initial.draft.kind;
-  counted : l.draft.counted ≤ l.zone-index;
   keeps : StoresRecord (kept l.draft l.parts) (before_end (entries (drop l.zone-index l.behind))) (entry l.fn.head ∷ before_end (entries l.fn.behind));
   left : groups_of (entries (drop l.zone-index l.behind)) ≡ groups_of (entries l.fn.behind);
 }

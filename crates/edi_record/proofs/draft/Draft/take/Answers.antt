@@ -1,4 +1,4 @@
-use Rattle.std.proofs.Common.{◌≡◌, ◌∙◌, ◌&&◌, true, false, refl, sym, ap, length, is_some, codes, bytes_eq}
+use Rattle.std.proofs.Common.{◌≡◌, ◌∙◌, ◌&&◌, true, false, refl, sym, ap, length, is_some, codes, bytes_eq, ◌+◌}
 use Rattle.edi_line.specs.ZoneData.{entry}
 use Rattle.edi_record.specs.Records.{values}
 use Rattle.edi_record.specs.declared.role.ZoneRole.TheVariants.{Identifier, Class, AttributeCount, AttributeClass, AttributeSet, AttributeValue, BodyCount, Position, EndPointer, EndSense, Skipped, Unknown}
@@ -161,7 +161,7 @@ returns-in_ok-take-in-Position-clause-keeps c = λ left group h.
       attribute_count = o.attribute_count refl;
       point_count = o.point_count refl;
       end_count = o.end_count refl;
-      counted_points = λ k. count_taken (codes "COR") d.counted (length (values (codes "COR") group)) z left (has (codes "COR") z is) (h.counted_points k);
+      counted_points = λ k. count_taken (codes "COR") d.counted (length (values (codes "COR") group)) z left (has (codes "COR") z is) (h.counted_points k) ∙ ap (λ n. n + length (values (codes "COR") left)) (sym c.in_ok-self-in-Position.ensures);
       counted_ends = λ k. absurd (no_link d.kind place.0 k);
       attributes = o.attributes refl refl (no_set d);
       points = λ k. c.in_ok-take-in-Position.ensures z left group (has (codes "COR") z is) (sym c.as_slice-text.ensures.value) (h.points k);
@@ -183,7 +183,7 @@ returns-in_ok-take_pointer-in-EndPointer-clause-keeps c = λ left group h.
       point_count = o.point_count refl;
       end_count = o.end_count refl;
       counted_points = λ k. absurd (no_link d.kind k link.0);
-      counted_ends = λ k. count_taken (codes "FTP") d.counted (length (values (codes "FTP") group)) z left (has (codes "FTP") z is) (h.counted_ends k);
+      counted_ends = λ k. count_taken (codes "FTP") d.counted (length (values (codes "FTP") group)) z left (has (codes "FTP") z is) (h.counted_ends k) ∙ ap (λ n. n + length (values (codes "FTP") left)) (sym c.in_ok-self-in-EndPointer.ensures);
       attributes = o.attributes refl refl (no_set d);
       points = o.points refl;
       ends = λ k. c.in_ok-take_pointer-in-EndPointer.ensures z left group (has (codes "FTP") z is) (sym c.as_slice-text.ensures.value) (h.ends k);
