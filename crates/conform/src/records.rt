@@ -108,11 +108,11 @@ fn push_points(points: &[Point], text: &mut String) -> Result<(), AllocError> {
 fn push_ends(ends: &[End], text: &mut String) -> Result<(), AllocError> {
     for end in ends {
         text.push_str("  end ")?;
-        push_bytes(text, end.lot().as_slice())?;
+        push_bytes(text, end.lot())?;
         text.push_str(";")?;
-        push_bytes(text, end.subset().as_slice())?;
+        push_bytes(text, end.subset())?;
         text.push_str(";")?;
-        push_name_of(text, end.rty().as_slice(), end.rid().as_slice())?;
+        push_name_of(text, end.rty(), end.rid().as_slice())?;
         if let Some(sns) = end.sns() {
             text.push_str(" with ")?;
             push_bytes(text, sns.as_slice())?;

@@ -170,7 +170,7 @@ fn plan_extras(extras: &[Extra], mut done: Vec<Extra>) -> Result<Vec<Extra>, All
 fn is_other(subset: &Subset, end: &End) -> bool
     ensures { result ≡ is_elsewhere subset.now end.now }
 {
-    *end.lot() != subset.lot || *end.subset() != subset.subset
+    end.lot() != subset.lot.as_slice() || end.subset() != subset.subset.as_slice()
 }
 
 fn has_other(subset: &Subset, ends: &[End]) -> bool

@@ -58,8 +58,8 @@ pub(crate) fn subset_of(alloc: Global, records: &SheetRecords) -> Result<Option<
 {
     match first_end(records) {
         Some(end) => Ok(Some(Subset {
-            lot: Text::from_slice(alloc, end.lot().as_slice())?,
-            subset: Text::from_slice(alloc, end.subset().as_slice())?,
+            lot: Text::from_slice(alloc, end.lot())?,
+            subset: Text::from_slice(alloc, end.subset())?,
         })),
         None => Ok(None),
     }

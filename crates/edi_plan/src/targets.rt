@@ -152,7 +152,7 @@ fn target_of(
     requires { FindsAll records.now names.now }
     ensures { IsTargetIfAny records.now end.now result }
 {
-    let kind = kind_coded(end.rty().as_slice())?;
+    let kind = kind_coded(end.rty())?;
     let name = RecordNameRef {
         kind,
         rid: end.rid(),

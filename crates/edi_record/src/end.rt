@@ -43,24 +43,24 @@ impl Model for End {
 
 impl End {
     /// The lot of the record that it names.
-    pub fn lot(&self) -> &Text
+    pub fn lot(&self) -> &[u8]
         ensures { result.now ≡ self.now.lot }
     {
-        &self.start.lot
+        self.start.lot()
     }
 
     /// The subset of the record that it names.
-    pub fn subset(&self) -> &Text
+    pub fn subset(&self) -> &[u8]
         ensures { result.now ≡ self.now.subset }
     {
-        &self.start.subset
+        self.start.subset()
     }
 
     /// The type of the record that it names.
-    pub fn rty(&self) -> &Text
+    pub fn rty(&self) -> &[u8]
         ensures { result.now ≡ self.now.target.rty }
     {
-        &self.start.rty
+        self.start.rty()
     }
 
     /// The identifier of the record that it names.
