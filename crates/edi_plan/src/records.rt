@@ -160,7 +160,7 @@ fn plan_extras(extras: &[Extra], mut done: Vec<Extra>) -> Result<Vec<Extra>, All
     ensures { IfOk result (λ done. done.items ≡ extras.now) }
 {
     for extra in extras {
-        done.push(extra.copied()?)?;
+        done.push(extra.copy()?)?;
     }
     Ok(done)
 }

@@ -6,7 +6,7 @@ ghost use Rattle.edi_record.specs.AnyRecords.{any_record, record_lent, Parts};
 ghost use Rattle.edi_record.specs.inner.FlatRecords.{no_stops, stops_before};
 
 use crate::any_record::AnyRecordRef;
-use crate::flat_lists::{append, copy_behind, exact_room, handed_over, push_behind};
+use crate::flat_lists::{append, copy_behind, exact_room, hand_over, push_behind};
 use crate::part_lists::{PartLists, Stops};
 use crate::record::{Extra, Point};
 use std::alloc::{AllocError, Global};
@@ -141,8 +141,8 @@ impl<H: Drop, A: Drop, E: Drop> Block<H, A, E> {
         let heads = exact_room(alloc, &self.heads)?;
         let lists = self.lists.exact_room(alloc)?;
         Ok(Block {
-            heads: handed_over(heads, &mut self.heads),
-            lists: self.lists.handed_over(lists),
+            heads: hand_over(heads, &mut self.heads),
+            lists: self.lists.hand_over(lists),
         })
     }
 

@@ -101,7 +101,7 @@ pub(crate) fn exact_room<T>(alloc: Global, list: &Vec<T>) -> Result<Vec<T>, Allo
 /// Hands the elements of a list over, with no room for more: in the list itself, if it has no room for more or the
 /// empty one has too little, and then the list goes on in that one's room; or else in the empty one. The heads and the
 /// ends of a block of links fill their lists, and to copy them took a fortieth of the instructions of a check.
-pub(crate) fn handed_over<T: Drop>(mut exact: Vec<T>, list: &mut Vec<T>) -> Vec<T>
+pub(crate) fn hand_over<T: Drop>(mut exact: Vec<T>, list: &mut Vec<T>) -> Vec<T>
     requires { exact.items ≡ [] }
     ensures items { result.items ≡ list.old.items }
     ensures emptied { list.new.items ≡ [] }

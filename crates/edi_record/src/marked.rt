@@ -52,10 +52,10 @@ fn marks_of_long(text: &[u8]) -> u64
 }
 
 /// The bytes before the first semicolon of a text, and those after it.
-pub(crate) fn cut(text: &[u8]) -> Option<(&[u8], Marked<'_>)>
+pub(crate) fn split_at_semicolon(text: &[u8]) -> Option<(&[u8], Marked<'_>)>
     ensures { AreCut text.now (option_map (λ p. (p.0.now, p.1.text.now)) result) }
 {
-    Marked::of(text).cut()
+    Marked::of(text).split_at_semicolon()
 }
 
 /// The semicolons of a text, if vectors cover it.
@@ -83,7 +83,7 @@ impl<'a> Marked<'a> {
     }
 
     /// The bytes before the first semicolon, and those after it.
-    pub(crate) fn cut(self) -> Option<(&'a [u8], Marked<'a>)>
+    pub(crate) fn split_at_semicolon(self) -> Option<(&'a [u8], Marked<'a>)>
         ensures { AreCut self.entry.text.now (option_map (λ p. (p.0.now, p.1.text.now)) result) }
     {
         let at = self.semicolon()?;

@@ -7,7 +7,7 @@ ghost use Rattle.edi_record.specs.inner.FlatRecords.{parts_between, ArePartsTo};
 ghost use Rattle.edi_record.specs.inner.PartLists.{held, empty_parts, HaveRoom, AreStopsAfter};
 
 use crate::any_record::AnyRecordRef;
-use crate::flat_lists::{append, exact_room, handed_over, make_room, part};
+use crate::flat_lists::{append, exact_room, hand_over, make_room, part};
 use crate::record::{Extra, Point};
 use std::alloc::{AllocError, Global};
 
@@ -140,8 +140,8 @@ impl<A: Drop, E: Drop> PartLists<A, E> {
         })
     }
 
-    /// Hands the elements over with no room for more, each list as `handed_over` does.
-    pub(crate) fn handed_over(&mut self, exact: PartLists<A, E>) -> PartLists<A, E>
+    /// Hands the elements over with no room for more, each list as `hand_over` does.
+    pub(crate) fn hand_over(&mut self, exact: PartLists<A, E>) -> PartLists<A, E>
         requires { held exact ≡ empty_parts }
         ensures same { held result ≡ held self.old }
         ensures none { held self.new ≡ empty_parts }
@@ -153,10 +153,10 @@ impl<A: Drop, E: Drop> PartLists<A, E> {
             extras,
         } = exact;
         PartLists {
-            points: handed_over(points, &mut self.points),
-            ends: handed_over(ends, &mut self.ends),
-            attributes: handed_over(attributes, &mut self.attributes),
-            extras: handed_over(extras, &mut self.extras),
+            points: hand_over(points, &mut self.points),
+            ends: hand_over(ends, &mut self.ends),
+            attributes: hand_over(attributes, &mut self.attributes),
+            extras: hand_over(extras, &mut self.extras),
         }
     }
 }

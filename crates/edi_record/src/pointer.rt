@@ -5,7 +5,7 @@ ghost use Rattle.edi_record.specs.Texts.{PointerText, shown, IsPointer, IsPositi
 ghost use Rattle.edi_record.specs.declared.record.Point.{Point};
 
 use crate::long_texts::LongTexts;
-use crate::marked::cut;
+use crate::marked::split_at_semicolon;
 use crate::name::Name;
 use edi_line::Text;
 use std::alloc::AllocError;
@@ -25,10 +25,10 @@ impl<'a> Pointer<'a> {
         ensures { MatchOption result ((p : PointerText) → ¬ (IsPointer text.now p))
             (λ p. IsPointer text.now (shown p)) }
     {
-        let (lot, rest) = cut(text)?;
-        let (subset, rest) = rest.cut()?;
-        let (rty, rid) = rest.cut()?;
-        if rid.cut().is_some() {
+        let (lot, rest) = split_at_semicolon(text)?;
+        let (subset, rest) = rest.split_at_semicolon()?;
+        let (rty, rid) = rest.split_at_semicolon()?;
+        if rid.split_at_semicolon().is_some() {
             return None;
         }
         Some(Pointer {

@@ -14,7 +14,7 @@ ghost use Rattle.edi_record.specs.Texts.{IsPosition};
 ghost use Rattle.edi_record.specs.declared.record.Point.{Point as Position};
 
 use crate::fault::GroupFault;
-use crate::marked::cut;
+use crate::marked::split_at_semicolon;
 use crate::record::{Kind, Point};
 use edi_line::Num;
 use std::alloc::AllocError;
@@ -45,7 +45,7 @@ fn high(x: &[u8], y: &[u8], z: &[u8]) -> Option<Point>
 fn last(text: &[u8]) -> Option<&[u8]>
     ensures { option_map (λ s. s.now) result ≡ last_part (parts text.now) }
 {
-    let Some((part, rest)) = cut(text) else {
+    let Some((part, rest)) = split_at_semicolon(text) else {
         return Some(text);
     };
     if rest.text.is_empty() {
@@ -61,8 +61,8 @@ impl Point {
     pub(crate) fn read(text: &[u8]) -> Option<Point>
         ensures { result ≡ point_in text.now }
     {
-        let (x, rest) = cut(text)?;
-        let Some((y, third)) = rest.cut() else {
+        let (x, rest) = split_at_semicolon(text)?;
+        let Some((y, third)) = rest.split_at_semicolon() else {
             return flat(x, rest.text);
         };
         if third.text.is_empty() {

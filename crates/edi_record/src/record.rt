@@ -145,7 +145,7 @@ impl Drop for Extra {
 
 impl Extra {
     /// The same zone, with memory of its own.
-    pub fn copied(&self) -> Result<Extra, AllocError>
+    pub fn copy(&self) -> Result<Extra, AllocError>
         ensures { IfOk result (λ copy. copy ≡ self.now) }
     {
         let value = match &self.value {

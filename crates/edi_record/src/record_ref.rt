@@ -107,7 +107,7 @@ impl<'a> RecordRef<'a> {
 
 impl Record {
     /// The record, borrowed.
-    pub fn borrowed(&self) -> RecordRef<'_>
+    pub fn lend(&self) -> RecordRef<'_>
         ensures { result ≡ self.now }
     {
         RecordRef {

@@ -12,10 +12,10 @@ returns-in_err-rty c = rw c.from_residual-in_err-rty.ensures (no_pointer c.args.
 
 pub returns-then-is_some : goal.returns-then-is_some
 returns-then-is_some c =
-    no_pointer c.args.text.now (cut_again _ c.cut-4.result c.is_some.result c.args.text.now c.in_ok-lot.lot.now c.in_ok-lot.rest.text.now c.in_ok-subset.subset.now c.in_ok-subset.rest.text.now c.in_ok-rty.rty.now c.in_ok-rty.rid.text.now
-    c.is_some.ensures c.if-is_some.true c.in_ok-lot.ensures c.in_ok-subset.ensures c.in_ok-rty.ensures c.cut-4.ensures)
+    no_pointer c.args.text.now (cut_again _ c.split_at_semicolon-4.result c.is_some.result c.args.text.now c.in_ok-lot.lot.now c.in_ok-lot.rest.text.now c.in_ok-subset.subset.now c.in_ok-subset.rest.text.now c.in_ok-rty.rty.now c.in_ok-rty.rid.text.now
+    c.is_some.ensures c.if-is_some.true c.in_ok-lot.ensures c.in_ok-subset.ensures c.in_ok-rty.ensures c.split_at_semicolon-4.ensures)
 
 pub returns : goal.returns
 returns c =
-    some_pointer c.args.text.now _ (cut_last _ c.cut-4.result c.is_some.result c.args.text.now c.in_ok-lot.lot.now c.in_ok-lot.rest.text.now c.in_ok-subset.subset.now c.in_ok-subset.rest.text.now c.in_ok-rty.rty.now c.in_ok-rty.rid.text.now
-    c.is_some.ensures c.if-is_some.false c.in_ok-lot.ensures c.in_ok-subset.ensures c.in_ok-rty.ensures c.cut-4.ensures)
+    some_pointer c.args.text.now _ (cut_last _ c.split_at_semicolon-4.result c.is_some.result c.args.text.now c.in_ok-lot.lot.now c.in_ok-lot.rest.text.now c.in_ok-subset.subset.now c.in_ok-subset.rest.text.now c.in_ok-rty.rty.now c.in_ok-rty.rid.text.now
+    c.is_some.ensures c.if-is_some.false c.in_ok-lot.ensures c.in_ok-subset.ensures c.in_ok-rty.ensures c.split_at_semicolon-4.ensures)

@@ -3,7 +3,7 @@ use Rattle.std.proofs.lemmas.List.{take_rest}
 use Rattle.std.specs.Option.{ForSome}
 use Rattle.edi_record.specs.inner.Texts.{parts, AreSemicolons}
 use Rattle.edi_record.proofs.TextParts.{cut_at, cut_none}
-use Rattle.edi_record.proofs.marked.Marked.cut.Goals as goal
+use Rattle.edi_record.proofs.marked.Marked.split_at_semicolon.Goals as goal
 
 pub returns-in_err-at : goal.returns-in_err-at
 returns-in_err-at c = rw c.from_residual.ensures (cut_none c.args.self.text.now (sym c.in_err-at.ensures))
