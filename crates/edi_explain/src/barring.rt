@@ -7,7 +7,8 @@ ghost use Rattle.edi_explain.specs.Barring.{IsBarredBy};
 ghost use Rattle.edi_plan.specs.EarlierLinks.{IsLeastIfAny};
 ghost use Rattle.edi_explain.specs.inner.Barring.{bars_again as text_bars_again, bars_text};
 
-use crate::contents::{content, content_numbered, first_line};
+use crate::contents::content_numbered;
+use edi_line::lines::{content, first_line};
 
 /// Whether a BOM stands before a BOM, or a CSE or an RTY before a CSE.
 fn bars_again(earlier: &[u8], line: &[u8]) -> bool

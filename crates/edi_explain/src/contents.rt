@@ -1,46 +1,9 @@
-//! The lines of a file, and their contents.
+//! The line of a file with a number.
 
-ghost use Rattle.std.specs.Prelude.{◌≡◌, ◌∷◌, ◌<◌, ◌-◌, ◌==◌, length, option_map, position, slice_get};
-ghost use Rattle.edi_line.specs.Bytes.{line_feed};
-ghost use Rattle.edi_line.specs.Lines.{content_of, without_last};
-ghost use Rattle.edi_line.specs.inner.Lines.{line_contents, lines_in};
+ghost use Rattle.std.specs.Prelude.{◌≡◌, ◌-◌, option_map, slice_get};
+ghost use Rattle.edi_line.specs.inner.Lines.{line_contents};
 
-use memchr::memchr;
-
-/// The first line, with its line feed if it has one, and the bytes behind it.
-pub(crate) fn first_line(bytes: &[u8]) -> (&[u8], &[u8])
-    requires { 0 < length bytes.now }
-    ensures lines { lines_in bytes.now ≡ result.0.now ∷ lines_in result.1.now }
-    ensures shorter { length result.1.now < length bytes.now }
-{
-    match feed_in(bytes) {
-        Some(feed) => bytes.split_at(feed + 1),
-        None => bytes.split_at(bytes.len()),
-    }
-}
-
-/// The place of the first line feed.
-fn feed_in(bytes: &[u8]) -> Option<usize>
-    ensures { result ≡ position (λ c. c == line_feed) bytes.now }
-{
-    memchr(b'\n', bytes)
-}
-
-/// A line without its line feed, and then without one carriage return.
-pub(crate) fn content(line: &[u8]) -> &[u8]
-    ensures { result.now ≡ content_of line.now }
-{
-    without(b'\r', without(b'\n', line))
-}
-
-fn without(last: u8, bytes: &[u8]) -> &[u8]
-    ensures { result.now ≡ without_last last bytes.now }
-{
-    match bytes {
-        [front @ .., end] if *end == last => front,
-        _ => bytes,
-    }
-}
+use edi_line::lines::{content, first_line};
 
 /// The content of the line with a number.
 pub(crate) fn content_numbered(bytes: &[u8], number: u64) -> Option<&[u8]>

@@ -4,8 +4,8 @@ ghost use Rattle.std.specs.Prelude.{◌≡◌, ◌↔◌, ◌++◌, ◌==◌, Is
 ghost use Rattle.edi_line.specs.inner.Lines.{lines_in};
 ghost use Rattle.edi_explain.specs.Cuts.{IsCutAt, ShowsCut, cut_hint, is_ended as is_ended_text};
 
-use crate::contents::first_line;
 use crate::hints::{END, push_hint};
+use edi_line::lines::first_line;
 use std::alloc::AllocError;
 
 /// The byte that ends a line.

@@ -4,8 +4,8 @@ ghost use Rattle.std.specs.Prelude.{◌≡◌, ◌++◌, ◌∷◌, [], IfOk, On
 ghost use Rattle.edi_line.specs.Bytes.{line_feed};
 ghost use Rattle.edi_explain.specs.Hints.{AreHints, AreHintsOfSheet, IsPartIfAny, end_hint, form_hint_or, form_words as words_of_form, hint_line, is_tar as is_tar_file, mark_hint, name_of as name_of_part, part_hint, part_typed};
 
-use crate::contents::first_line;
 use crate::explained::NamedFile;
+use edi_line::lines::first_line;
 use edi_shown::push_shown;
 use std::alloc::{AllocError, Global};
 

@@ -7,7 +7,7 @@ ghost use Rattle.edi_line.specs.Refusal.{IsUnbroken};
 ghost use Rattle.edi_explain.specs.Skipped.{DescribesSkipped, HasQuality, HasRemarks, left_out_line};
 ghost use Rattle.edi_explain.specs.inner.Skipped.{is_quality_content};
 
-use crate::contents::{content, first_line};
+use edi_line::lines::{content, first_line};
 use edi_line::push_number;
 use std::alloc::{AllocError, Global};
 

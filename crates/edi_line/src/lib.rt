@@ -10,7 +10,7 @@ pub mod feed;
 pub mod file;
 pub mod groups;
 mod known;
-mod lines;
+pub mod lines;
 pub mod num;
 mod order;
 pub mod reading;

@@ -12,7 +12,7 @@ use std::simd::prelude::*;
 const LANES: usize = 32;
 
 /// The first line, with its line feed if it has one, and the bytes behind it.
-pub(crate) fn first_line(bytes: &[u8]) -> (&[u8], &[u8])
+pub fn first_line(bytes: &[u8]) -> (&[u8], &[u8])
     requires { 0 < length bytes.now }
     ensures lines { lines_in bytes.now ≡ result.0.now ∷ lines_in result.1.now }
     ensures shorter { length result.1.now < length bytes.now }
@@ -67,7 +67,7 @@ fn feed_in(bytes: &[u8]) -> Option<usize>
 }
 
 /// A line without its line feed, and then without one carriage return.
-pub(crate) fn content(line: &[u8]) -> &[u8]
+pub fn content(line: &[u8]) -> &[u8]
     ensures { result.now ≡ content_of line.now }
 {
     without(b'\r', without(b'\n', line))

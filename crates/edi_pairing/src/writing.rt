@@ -1,16 +1,15 @@
 //! Writing pairings.
 
-ghost use Rattle.std.specs.Prelude.{◌≡◌, ◌++◌, ℕ, List, IfErr, IfOk, OnOk};
+ghost use Rattle.std.specs.Prelude.{◌≡◌, ◌++◌, IfErr, IfOk, OnOk};
 ghost use Rattle.edi_line.specs.FileBytes.{file_bytes};
 ghost use Rattle.edi_compare.specs.Refused.{IsPairRefusal};
 ghost use Rattle.edi_compare.specs.Rules.{IsAccepted};
-ghost use Rattle.edi_pairing.specs.NamedSheets.{IsNamedSheet};
 ghost use Rattle.edi_pairing.specs.PairingText.{IsPairing, line_end, line_of, text_of};
 ghost use Rattle.edi_pairing.specs.Verified.{IsComparedTo};
 
 use crate::names::{RecordName, RecordNames};
-use crate::sheets::{NamedSheet, name_both};
-use edi_compare::{CompareFault, Pairing, Verdict, compare_accepted};
+use crate::taken::TakenNames;
+use edi_compare::{CompareFault, Pairing, Verdict, compare_observed};
 use edi_line::FileBytes;
 use edi_schema::Schema;
 use std::alloc::{AllocError, Global};
@@ -82,26 +81,15 @@ pub fn compare_to_file(
     ensures compared { IfOk result (IsComparedTo schema.now (file_bytes a.entry) (file_bytes b.entry)) }
     ensures refusal { IfErr result (IsPairRefusal schema.now (file_bytes a.entry) (file_bytes b.entry)) }
 {
-    let (first, second) = name_both(alloc, schema, a, b)?;
-    let compared = compare_named(alloc, schema, &first, &second)?;
-    Ok(compared)
-}
-
-/// What `edi_compare::compare_accepted` answers, with the pairing as a file.
-fn compare_named(
-    alloc: Global,
-    schema: &Schema,
-    first: &NamedSheet,
-    second: &NamedSheet,
-) -> Result<Compared, AllocError>
-    requires { (a b : List ℕ) × IsNamedSheet schema.now a first.now × IsNamedSheet schema.now b second.now }
-    ensures { IfOk result (λ compared. (a b : List ℕ) → IsNamedSheet schema.now a first.now
-        → IsNamedSheet schema.now b second.now
-        → IsComparedTo schema.now a b compared) }
-{
-    match compare_accepted(alloc, schema, &first.accepted, &second.accepted)? {
+    a.keeps();
+    b.keeps();
+    let (names, others) = (TakenNames::new(alloc), TakenNames::new(alloc));
+    let (verdict, names, others) = compare_observed(alloc, schema, a, b, names, others)?;
+    match verdict {
         Verdict::Same(pairing) => {
-            let file = pairing_text(alloc, &first.names, &second.names, &pairing)?;
+            let names = RecordNames::of(names.into_vec());
+            let others = RecordNames::of(others.into_vec());
+            let file = pairing_text(alloc, &names, &others, &pairing)?;
             Ok(Compared::Same { file })
         }
         Verdict::Different { line } => Ok(Compared::Different { line }),
