@@ -53,10 +53,9 @@ impl Num {
         ensures { result ≡ signed_by sign.now size }
     {
         let size = size as i64;
-        let millionths = if sign.first() == Some(&b'-') {
-            -size
-        } else {
-            size
+        let millionths = match sign {
+            [b'-'] => -size,
+            _ => size,
         };
         Num { millionths }
     }
