@@ -4,12 +4,11 @@
     checks/rules.py            writes the page
     checks/rules.py --check    fails if the page isn't what it would write
 
-A rule's sentence is that of the tables of docs/FORMAT.md. Its definition is the one in a crate's specs/
-(specs/inner/ aside) that a comment `-- RULE: ..` stands above or in, or that has a test of
-that number (202 is the test of an identifier, which schemas share). Its code is the sources that name its number (edi_explain and edi_outcome
-aside, which say what others found). Its cases are those in
-crates/conform/data and program/cases that want its refusal, but for those of outcomes, which are given one; of the rules of
-deliveries, the known files of edi_delivery that have it.
+A rule's sentence is that of the tables of docs/FORMAT.md. Its definition is the one in a crate's specs/ (specs/inner/
+aside) that a comment `-- RULE: ..` stands above or in (202 is the test of an identifier, which schemas share). Its code
+is the sources that name its number (edi_explain and edi_outcome aside, which say what others found). Its cases are those
+in crates/conform/data and program/cases that want its refusal, but for those of outcomes, which are given one; of the
+rules of deliveries, the known files of edi_delivery that have it.
 """
 import glob
 import os
@@ -47,7 +46,7 @@ def definitions():
     for path in paths("crates/*/specs/*.antt"):
         lines = read(path).split("\n")
         for at, line in enumerate(lines):
-            rule = re.search(r"^\s*-- ([1-7]\d\d): |\btest ([1-7]\d\d) |: rule ≡ (202) ", line)
+            rule = re.search(r"^\s*-- ([1-7]\d\d): |: rule ≡ (202) ", line)
             if rule:
                 number = int(next(filter(None, rule.groups())))
                 found.setdefault(number, []).append((path, name_at(lines, at)))

@@ -1,8 +1,8 @@
 -- The rules of a sheet, phase by phase: the least of the first broken phase is the least of all.
 use Rattle.std.proofs.Common.{◌≡◌, ◌∙◌, subst, ℕ, ◌<◌, ◌≤◌, ◌⊎◌, inl, inr, List, [], ◌∷◌, ◌++◌, map, Err, arith}
 use Rattle.edi_line.specs.ZoneData.{ZoneData}
-use Rattle.edi_line.specs.LineRules.{BreaksIn, BreaksLineRule, line_tests, IsZonesOf}
-use Rattle.edi_line.specs.Refusal.{IsUnbroken, IsLeastBroken, BreaksTest}
+use Rattle.edi_line.specs.LineRules.{BreaksHere, BreaksIn, BreaksLineRule, IsZonesOf}
+use Rattle.edi_line.specs.Refusal.{IsUnbroken, IsLeastBroken}
 use Rattle.edi_line.specs.Spelling.{Reading}
 use Rattle.edi_line.specs.inner.Spelling.{reading_of}
 use Rattle.edi_line.specs.inner.Lines.{line_contents}
@@ -39,25 +39,21 @@ mapped f [] (b ∷ before) y after e = cc
 mapped f (x ∷ xs) [] y after e = (x, cc)
 mapped f (x ∷ xs) (b ∷ before) y after e = mapped f xs before y after cc
 
-placed_below : (before : List Reading) (line : Reading) (rule : ℕ) → BreaksTest (line_tests before line) rule → rule < 200
-placed_below before line rule (inl h) = omega (arith, h.0)
-placed_below before line rule (inr (inl h)) = omega (arith, h.0)
-placed_below before line rule (inr (inr (inl h))) = omega (arith, h.0)
-placed_below before line rule (inr (inr (inr (inl h)))) = omega (arith, h.0)
-placed_below before line rule (inr (inr (inr (inr (inl h))))) = omega (arith, h.0)
-placed_below before line rule (inr (inr (inr (inr (inr (inl h)))))) = omega (arith, h.0)
-placed_below before line rule (inr (inr (inr (inr (inr (inr h)))))) = absurd h
-
-here_below : (content : List ℕ) (before : List Reading) (line : Reading) (rule : ℕ) → reading_of content ≡ line → (line ≡ Err rule) ⊎ BreaksTest (line_tests before line) rule → rule < 200
+here_below : (content : List ℕ) (before : List Reading) (line : Reading) (rule : ℕ) → reading_of content ≡ line → BreaksHere before line rule → rule < 200
 here_below content before line rule is (inl h) = reading_rule_below content rule (is ∙ h)
-here_below content before line rule is (inr h) = placed_below before line rule h
+here_below content before line rule is (inr (inl h)) = omega (arith, h.0)
+here_below content before line rule is (inr (inr (inl h))) = omega (arith, h.0)
+here_below content before line rule is (inr (inr (inr (inl h)))) = omega (arith, h.0)
+here_below content before line rule is (inr (inr (inr (inr (inl h))))) = omega (arith, h.0)
+here_below content before line rule is (inr (inr (inr (inr (inr (inl h)))))) = omega (arith, h.0)
+here_below content before line rule is (inr (inr (inr (inr (inr (inr h)))))) = omega (arith, h.0)
 
 pub line_rule_below : (b : List ℕ) (rule place : ℕ) → BreaksLineRule b rule place → rule < 200
 line_rule_below b rule place broken = go (rule_read b rule place broken)
   where
     go : BreaksIn (readings_of b) rule place → rule < 200
     go (inl h) = let c = mapped reading_of (line_contents b) h.before h.line h.after h.cut in here_below c.0 h.before h.line rule c.1 h.breaks
-    go (inr h) = omega (arith, h.rule_is)
+    go (inr h) = omega (arith, h.0)
 
 pub group_above : (group : List ZoneData) (rule : ℕ) → BreaksGroupRule group rule → 200 ≤ rule
 group_above group rule (lacks_kind e h) = omega (arith, e)

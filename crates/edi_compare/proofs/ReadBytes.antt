@@ -11,7 +11,7 @@ use Rattle.edi_line.specs.inner.Lines.{lines_in, line_contents}
 use Rattle.edi_line.specs.inner.Spelling.{reading_of, is_space, has_head, spelling_of, stated_length}
 use Rattle.edi_line.specs.inner.Zones.{readings_of, Part, part_by, part_of, parts_after}
 use Rattle.edi_line.specs.inner.Zones.Part.{Blank, Continues, IsRemark, Begins}
-use Rattle.edi_line.specs.LineKinds.{kind_of}
+use Rattle.edi_line.specs.inner.Kinds.{kind_of}
 use Rattle.edi_line.proofs.Cut.{lines_exist}
 use Rattle.edi_line.proofs.ZonesFound.{continuation, whole_zones, zones_of}
 

@@ -4,9 +4,9 @@ use Rattle.std.proofs.lemmas.Option.{slice_get-map}
 use Rattle.edi_line.proofs.Cut.{lines_exist, lines_unique}
 use Rattle.edi_line.proofs.Heads.{read_103}
 use Rattle.edi_line.proofs.Readings.{rule_read}
-use Rattle.edi_line.specs.LineRules.{BreaksHere, BreaksIn, BreaksLineRule, line_tests}
+use Rattle.edi_line.specs.LineRules.{BreaksHere, BreaksIn, BreaksLineRule}
 use Rattle.edi_line.specs.Lines.{content_of}
-use Rattle.edi_line.specs.Refusal.{BreaksTest, IsLeastBroken}
+use Rattle.edi_line.specs.Refusal.{IsLeastBroken}
 use Rattle.edi_line.specs.Spelling.{HasMore, Reading}
 use Rattle.edi_line.specs.inner.Lines.{line_contents, lines_in}
 use Rattle.edi_line.specs.inner.Spelling.{reading_of}
@@ -17,16 +17,12 @@ use Rattle.edi_explain.specs.Lengths.{CountsCharacters, IsMiscounted}
 -- a line breaks 103 by itself alone
 own_rule : (before : List Reading) (line : Reading) → BreaksHere before line 103 → line ≡ Err 103
 own_rule before line (inl e) = e
-own_rule before line (inr h) = absurd (go h)
-  where
-    go : BreaksTest (line_tests before line) 103 → ⊥
-    go (inl h) = omega (arith, h.0)
-    go (inr (inl h)) = omega (arith, h.0)
-    go (inr (inr (inl h))) = omega (arith, h.0)
-    go (inr (inr (inr (inl h)))) = omega (arith, h.0)
-    go (inr (inr (inr (inr (inl h))))) = omega (arith, h.0)
-    go (inr (inr (inr (inr (inr (inl h)))))) = omega (arith, h.0)
-    go (inr (inr (inr (inr (inr (inr h)))))) = h
+own_rule before line (inr (inl h)) = absurd (omega (arith, h.0))
+own_rule before line (inr (inr (inl h))) = absurd (omega (arith, h.0))
+own_rule before line (inr (inr (inr (inl h)))) = absurd (omega (arith, h.0))
+own_rule before line (inr (inr (inr (inr (inl h))))) = absurd (omega (arith, h.0))
+own_rule before line (inr (inr (inr (inr (inr (inl h)))))) = absurd (omega (arith, h.0))
+own_rule before line (inr (inr (inr (inr (inr (inr h)))))) = absurd (omega (arith, h.0))
 
 at_cut : {X : Type 0} (xs front after : List X) (x : X) (n : ℕ) → xs ≡ front ++ x ∷ after → n ≡ length front → slice_get xs n ≡ Some x
 at_cut xs [] after x n e f = ap (slice_get xs) f ∙ ap (λ l. slice_get l 0) e
@@ -39,7 +35,7 @@ module _ (bytes : List ℕ) (rule at : ℕ) (least : IsLeastBroken (BreaksLineRu
     where
       go : BreaksIn (readings_of bytes) rule at → (1 ≤ at) × (slice_get (readings_of bytes) (at - 1) ≡ Some (Err 103))
       go (inl h) = (omega (arith, h.place_is), at_cut (readings_of bytes) h.before h.after h.line (at - 1) h.cut (omega (arith, h.place_is)) ∙ ap Some (own_rule h.before h.line (subst (BreaksHere h.before h.line) is h.breaks)))
-      go (inr h) = absurd (omega (arith, h.rule_is, is))
+      go (inr h) = absurd (omega (arith, h.0, is))
 
   pub refused_more : (content : List ℕ) → slice_get (line_contents bytes) (at - 1) ≡ Some content → HasMore content
   refused_more content there =

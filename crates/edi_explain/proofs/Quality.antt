@@ -8,7 +8,7 @@ use Rattle.edi_line.proofs.Readings.{readings_are, unbroken_read}
 use Rattle.edi_line.proofs.Rules.{IsFaultless}
 use Rattle.edi_line.proofs.Said.{file_said}
 use Rattle.edi_line.proofs.Shape.{shape_of_all}
-use Rattle.edi_line.specs.LineKinds.{bears, is_eom, is_other, is_zone, kind_of, some_bears}
+use Rattle.edi_line.specs.LineKinds.{bears, code_is, is_other, is_zone, some_bears}
 use Rattle.edi_line.specs.LineRules.{BreaksLineRule}
 use Rattle.edi_line.specs.Made.{AreMadeFrom}
 use Rattle.edi_line.specs.Refusal.{IsUnbroken}
@@ -36,19 +36,19 @@ coded P p q code = go (bytes_eq code (codes "QAC")) refl
     go false e h = subst P (sym ((bytes_eq-Decides code (codes "QAP")).0 h)) q
 
 -- what has one of the four codes is no zone of quality
-no_quality : (z : ZoneData) → is_other (kind_of z.code) ≡ false → is_quality z ≡ false
+no_quality : (z : ZoneData) → is_other z.code ≡ false → is_quality z ≡ false
 no_quality z named = go (is_quality z) refl
   where
     go : (b : Bool) → is_quality z ≡ b → b ≡ false
     go false e = refl
-    go true e = absurd (true≢false (sym (coded (λ c. is_other (kind_of c) ≡ true) refl refl z.code e) ∙ named))
+    go true e = absurd (true≢false (sym (coded (λ c. is_other c ≡ true) refl refl z.code e) ∙ named))
 
 no_line : (line : Reading) → ¬ (bears is_zone line ≡ true) → is_quality_line line ≡ false
 no_line (Ok (Some s)) not = go (bytes_eq s.code (codes "QAC") || bytes_eq s.code (codes "QAP")) refl
   where
     go : (b : Bool) → (bytes_eq s.code (codes "QAC") || bytes_eq s.code (codes "QAP")) ≡ b → b ≡ false
     go false e = refl
-    go true e = absurd (not (coded (λ c. is_zone (kind_of c) ≡ true) refl refl s.code e))
+    go true e = absurd (not (coded (λ c. is_zone c ≡ true) refl refl s.code e))
 no_line (Ok None) not = refl
 no_line (Err rule) not = refl
 
@@ -76,14 +76,14 @@ in_records zones charset groups d =
     tail : count_by is_quality (d.tail ∷ []) ≡ 0 + count_by is_quality []
     tail = none d.tail [] (no_quality d.tail (ap is_other d.tail_is))
 
-    set : (o : Option ZoneData) → IfSome o (λ z. kind_of z.code ≡ kind_of (codes "CSE")) → count_by is_quality (option_to_list o) ≡ 0
+    set : (o : Option ZoneData) → IfSome o (λ z. z.code ≡ codes "CSE") → count_by is_quality (option_to_list o) ≡ 0
     set None h = refl
     set (Some z) h = none z [] (no_quality z (ap is_other h))
 
 pub quality_counted : (bytes : List ℕ) → IsUnbroken (BreaksLineRule bytes) → (count : ℕ) → count ≡ count_by is_quality_line (readings_of bytes) → HasQuality bytes count
 quality_counted bytes unbroken count e =
     let are = zones_of_all bytes zones sound refl in
-    let shape = shape_of_all lines zones sound (ended (some_bears is_eom lines) refl) refl in (
+    let shape = shape_of_all lines zones sound (ended (some_bears (code_is "EOM") lines) refl) refl in (
       zones,
       are,
       e
@@ -100,6 +100,6 @@ quality_counted bytes unbroken count e =
     sound : IsFaultless lines
     sound = λ rule place b. unbroken_read bytes unbroken rule place (inl b)
 
-    ended : (b : Bool) → some_bears is_eom lines ≡ b → b ≡ true
+    ended : (b : Bool) → some_bears (code_is "EOM") lines ≡ b → b ≡ true
     ended true h = refl
-    ended false h = absurd (unbroken_read bytes unbroken 106 (length lines + 1) (inr (record { rule_is = refl; place_is = refl; lacks = h })))
+    ended false h = absurd (unbroken_read bytes unbroken 106 (length lines + 1) (inr (refl, refl, h)))

@@ -4,7 +4,7 @@ use Rattle.std.specs.List.{AllByRecursion, starts_with}
 use Rattle.edi_schema.proofs.Paired.{count-cons}
 use Rattle.std.proofs.lemmas.Slice.Eq.{bytes_eq-Decides}
 use Rattle.edi_line.proofs.Readings.{readings_exist, rule_said}
-use Rattle.edi_line.specs.LineKinds.{bears, is_remark, kind_of}
+use Rattle.edi_line.specs.LineKinds.{bears, code_is}
 use Rattle.edi_line.specs.LineRules.{BreaksAt, BreaksLineRule}
 use Rattle.edi_line.specs.Lines.{content_of}
 use Rattle.edi_line.specs.Refusal.{IsUnbroken}
@@ -16,32 +16,13 @@ use Rattle.edi_explain.proofs.Barred.{IsFine, next_content, remark_tested}
 use Rattle.edi_explain.specs.Barring.{has_zone}
 use Rattle.edi_explain.specs.Skipped.{HasRemarks, remarks_in}
 
--- the kinds of the four codes, of NEX and of others, by codes that have them
-no_remark : (a b c d e : Bool) → is_remark (cond a (kind_of (codes "BOM")) (cond b (kind_of (codes "CSE")) (cond c (kind_of (codes "RTY")) (cond d (kind_of (codes "EOM")) (cond e (kind_of (codes "NEX")) (cond false (kind_of (codes "REM")) (kind_of []))))))) ≡ false
-no_remark true b c d e = refl
-no_remark false true c d e = refl
-no_remark false false true d e = refl
-no_remark false false false true e = refl
-no_remark false false false false true = refl
-no_remark false false false false false = refl
-
-remark_code : (code : List ℕ) → is_remark (kind_of code) ≡ bytes_eq code (codes "REM")
-remark_code code = go (bytes_eq code (codes "REM")) refl
-  where
-    go : (b : Bool) → bytes_eq code (codes "REM") ≡ b → is_remark (kind_of code) ≡ b
-    go true e = ap (λ c. is_remark (kind_of c)) ((bytes_eq-Decides code (codes "REM")).0 e)
-    go false e =
-        ap (λ r. is_remark (cond (bytes_eq code (codes "BOM")) (kind_of (codes "BOM")) (cond (bytes_eq code (codes "CSE")) (kind_of (codes "CSE")) (cond (bytes_eq code (codes "RTY")) (kind_of (codes "RTY"))
-        (cond (bytes_eq code (codes "EOM")) (kind_of (codes "EOM")) (cond (bytes_eq code (codes "NEX")) (kind_of (codes "NEX")) (cond r (kind_of (codes "REM")) (kind_of [])))))))) e
-        ∙ no_remark (bytes_eq code (codes "BOM")) (bytes_eq code (codes "CSE")) (bytes_eq code (codes "RTY")) (bytes_eq code (codes "EOM")) (bytes_eq code (codes "NEX"))
-
-remark_zone : (r : Reading) → bears is_remark r ≡ has_zone (codes "REM") r
-remark_zone (Ok (Some s)) = remark_code s.code
+remark_zone : (r : Reading) → bears (code_is "REM") r ≡ has_zone (codes "REM") r
+remark_zone (Ok (Some s)) = refl
 remark_zone (Ok None) = refl
 remark_zone (Err rule) = refl
 
 -- a line that breaks no rule of its own is a remark by its first bytes
-pub remark_read : (content : List ℕ) → IsFine content → bears is_remark (reading_of content) ≡ starts_with nat_eq content (codes "REM")
+pub remark_read : (content : List ℕ) → IsFine content → bears (code_is "REM") (reading_of content) ≡ starts_with nat_eq content (codes "REM")
 remark_read content fine = remark_zone (reading_of content) ∙ remark_tested content fine
 
 -- the contents of a file that breaks no rule of lines

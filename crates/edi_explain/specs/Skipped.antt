@@ -2,7 +2,7 @@
 use Rattle.std.specs.Prelude.{◌≡◌, ◌++◌, ◌||◌, ℕ, Bool, List, [], ◌∷◌, codes, count_by, decimal, flat_map}
 use Rattle.edi_line.specs.Bytes.{line_feed}
 use Rattle.edi_line.specs.ZoneData.{ZoneData, has_code}
-use Rattle.edi_line.specs.LineKinds.{bears, is_remark}
+use Rattle.edi_line.specs.LineKinds.{bears, code_is}
 use Rattle.edi_line.specs.LineRules.{IsZonesOf}
 use Rattle.edi_line.specs.Spelling.{AreReadings, Reading}
 use Rattle.edi_line.specs.Zones.{groups_of}
@@ -21,7 +21,7 @@ HasQuality b count = (zones : List ZoneData) × IsZonesOf b zones × (count ≡ 
 
 -- how many of these lines are remarks
 abbrev pub remarks_in : List Reading → ℕ
-remarks_in lines = count_by (bears is_remark) lines
+remarks_in lines = count_by (bears (code_is "REM")) lines
 
 -- so many lines of the file are remarks
 abbrev pub HasRemarks : List ℕ → ℕ → Type 0

@@ -5,9 +5,11 @@ use Rattle.std.specs.Cow.{IsOwnedSlice}
 use Rattle.std.specs.declared.borrow.CowSlice.{CowSlice}
 use Rattle.std.proofs.lemmas.List.{append-nil, append_assoc}
 use Rattle.std.proofs.lemmas.List.Folds.{list_any-append}
-use Rattle.edi_line.specs.LineKinds.{kind_of, is_next, starts, bears}
+use Rattle.edi_line.specs.LineKinds.{code_is, starts, bears}
+use Rattle.edi_line.specs.inner.Kinds.{kind_of, is_start_kind, is_next}
 use Rattle.edi_line.specs.Spelling.{Reading, AreReadings}
 use Rattle.edi_line.specs.inner.Zones.{readings_of}
+use Rattle.edi_line.proofs.KindsSaid.{next_same, starts_same}
 use Rattle.edi_line.proofs.Passes.{Next as NextLine}
 use Rattle.edi_line.proofs.Readings.{readings_are}
 use Rattle.edi_line.specs.Zones.{IsContinued, IsBorrowedUnlessContinued}
@@ -57,7 +59,7 @@ open_more lines line n not_start o = record {
   nothing_else = list_any-append (bears starts) o.between (line ∷ []) ∙ (ap (λ b. b || (bears starts line || false)) o.nothing_else ∙ ap (λ b. b || false) not_start);
 }
 
-continued_by : (lines : List Reading) (line : Reading) (n : ℕ) → bears is_next line ≡ true → IsOpenAt lines n → IsContinued (lines ++ line ∷ []) n
+continued_by : (lines : List Reading) (line : Reading) (n : ℕ) → bears (code_is "NEX") line ≡ true → IsOpenAt lines n → IsContinued (lines ++ line ∷ []) n
 continued_by lines line n next o = record {
   front = o.front;
   head = o.head;
@@ -97,7 +99,7 @@ kept lines line old new not_start borrows same = record {
 }
 
 -- a line that continues the open zone
-open_continued : (lines : List Reading) (line : Reading) (before after : Option Zone) → bears starts line ≡ false → bears is_next line ≡ true → begins_at after ≡ begins_at before
+open_continued : (lines : List Reading) (line : Reading) (before after : Option Zone) → bears starts line ≡ false → bears (code_is "NEX") line ≡ true → begins_at after ≡ begins_at before
     → IfSome before (λ z. IsBorrowedUnlessContinued lines z × IsOpenAt lines z.line)
     → IfSome after (λ z. IsBorrowedUnlessContinued (lines ++ line ∷ []) z × IsOpenAt (lines ++ line ∷ []) z.line)
 open_continued lines line before None not_start next same h = tt
@@ -107,7 +109,7 @@ open_continued lines line (Some y) (Some z) not_start next same h =
     let o : IsOpenAt lines z.line = subst (IsOpenAt lines) (sym at) h.1 in
     ((λ owned. continued_by lines line z.line next o), open_more lines line z.line not_start o)
 
-continued : (lines : List Reading) (line : Reading) (old new : Reader) → bears starts line ≡ false → bears is_next line ≡ true → BorrowsLines lines old → IsLengthened old.zones new.zones → BorrowsLines (lines ++ line ∷ []) new
+continued : (lines : List Reading) (line : Reading) (old new : Reader) → bears starts line ≡ false → bears (code_is "NEX") line ≡ true → BorrowsLines lines old → IsLengthened old.zones new.zones → BorrowsLines (lines ++ line ∷ []) new
 continued lines line old new not_start next borrows c = record {
   done = subst (AllByRecursion (IsBorrowedUnlessContinued (lines ++ line ∷ []))) (sym c.0) (all_borrowed_more lines line (done_in old.zones) borrows.done);
   open_zone = open_continued lines line (open_in old.zones) (open_in new.zones) not_start next c.1 borrows.open_zone;
@@ -120,7 +122,7 @@ closed lines line old new borrows c = record {
   open_zone = subst (λ (o : Option Zone). IfSome o (λ z. IsBorrowedUnlessContinued (lines ++ line ∷ []) z × IsOpenAt (lines ++ line ∷ []) z.line)) (sym c.1) tt;
 }
 
-by_kind : (lines : List Reading) (line : Reading) (kind : ZoneKind) (old new : Reader) → bears starts line ≡ starts kind → bears is_next line ≡ is_next kind → BorrowsLines lines old → Leaves kind old new → BorrowsLines (lines ++ line ∷ []) new
+by_kind : (lines : List Reading) (line : Reading) (kind : ZoneKind) (old new : Reader) → bears starts line ≡ is_start_kind kind → bears (code_is "NEX") line ≡ is_next kind → BorrowsLines lines old → Leaves kind old new → BorrowsLines (lines ++ line ∷ []) new
 by_kind lines line Next old new s n borrows leaves = continued lines line old new s n borrows leaves
 by_kind lines line Remark old new s n borrows leaves = closed lines line old new borrows leaves
 by_kind lines line Bom old new s n borrows leaves = closed lines line old new borrows leaves
@@ -130,7 +132,7 @@ by_kind lines line Eom old new s n borrows leaves = closed lines line old new bo
 by_kind lines line Other old new s n borrows leaves = closed lines line old new borrows leaves
 
 pub borrows_after : (lines : List Reading) (line : Reading) (old new : Reader) → BorrowsLines lines old → LeavesAfter line old new → BorrowsLines (lines ++ line ∷ []) new
-borrows_after lines (Ok (Some s)) old new borrows leaves = by_kind lines (Ok (Some s)) (kind_of s.code) old new refl refl borrows leaves
+borrows_after lines (Ok (Some s)) old new borrows leaves = by_kind lines (Ok (Some s)) (kind_of s.code) old new (starts_same s.code) (next_same s.code) borrows leaves
 borrows_after lines (Ok None) old new borrows leaves = kept lines (Ok None) old new refl borrows leaves
 borrows_after lines (Err rule) old new borrows leaves = kept lines (Err rule) old new refl borrows leaves
 

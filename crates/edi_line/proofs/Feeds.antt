@@ -79,7 +79,7 @@ least_of_all lines more rule place h = record {
 }
   where
     missed : (r p : ℕ) → LacksEnd (lines ++ more) r p → IsNoLess rule place r p
-    missed r p l = inl (omega (arith, l.place_is, length-append lines more, place_within lines rule place h.is))
+    missed r p l = inl (omega (arith, l.1, length-append lines more, place_within lines rule place h.is))
 
 -- a rule that is broken at a line isn't 106
 least_at : (lines done : List Reading) (line : Reading) (rest : List Reading) (rule place : ℕ) → lines ≡ done ++ line ∷ rest → place ≡ length done + 1 → IsLeastBroken (BreaksIn lines) rule place → IsLeastBroken (BreaksAt lines) rule place
@@ -87,7 +87,7 @@ least_at lines done line rest rule place cut place_is h = record { is = at h.is;
   where
     at : BreaksIn lines rule place → BreaksAt lines rule place
     at (inl b) = b
-    at (inr l) = absurd (omega (arith, l.place_is, place_is, ap length cut, length-append done (line ∷ rest)))
+    at (inr l) = absurd (omega (arith, l.1, place_is, ap length cut, length-append done (line ∷ rest)))
 
 -- ---- a reader goes through lines
 

@@ -1,16 +1,17 @@
 -- The zones that a reader holds are those of the lines, and one is open where the last line of weight begins one.
-use Rattle.std.proofs.Common.{◌≡◌, ℕ, suc, ◌⊎◌, Bool, true, false, cond, Option, Some, None, is_some, option_map, option_to_list, Ok, Err, List, [], ◌∷◌, ◌++◌, length, refl, sym, ap, ap₂, ◌∙◌, subst, inl, inr, arith, length-append, IsSome}
-use Rattle.std.proofs.lemmas.Bool.{or_left}
+use Rattle.std.proofs.Common.{◌≡◌, ℕ, suc, ◌⊎◌, Bool, true, false, not, ◌||◌, cond, Option, Some, None, is_some, option_map, option_to_list, Ok, Err, List, [], ◌∷◌, ◌++◌, length, refl, sym, ap, ap₂, ◌∙◌, subst, inl, inr, arith, length-append, IsSome}
 use Rattle.std.proofs.lemmas.List.{append-nil}
 use Rattle.edi_line.specs.ZoneData.{ZoneData}
 use Rattle.edi_line.specs.Feeding.{Zoned, EndsInZone, HoldsZones}
-use Rattle.edi_line.specs.LineKinds.{kind_of, is_zone, starts, bears, some_bears}
+use Rattle.edi_line.specs.LineKinds.{code_is, is_zone, starts, bears, some_bears}
+use Rattle.edi_line.specs.inner.Kinds.{kind_of, is_zone_kind, is_start_kind}
 use Rattle.edi_line.specs.Spelling.{Reading}
 use Rattle.edi_line.specs.Zones.{IsZonesIn}
 use Rattle.edi_line.specs.inner.Held.{no_zones, closed, zoned_step, zoned_after}
 use Rattle.edi_line.specs.inner.Zones.{part_by, part_of, parts_after}
 use Rattle.edi_line.specs.declared.order.ZoneKind.{ZoneKind}
 use Rattle.edi_line.specs.declared.order.ZoneKind.TheVariants.{Bom, Cse, Rty, Eom, Other, Next, Remark}
+use Rattle.edi_line.proofs.KindsSaid.{zone_same, starts_same}
 use Rattle.edi_line.proofs.Rules.{closed_zones}
 use Rattle.edi_line.proofs.ZonesSaid.{or_first, or_second, zones_exist, zones_one}
 
@@ -31,9 +32,9 @@ some_mapped f (Some x) = refl
 open_step : (n : ℕ) (z : Zoned) (line : Reading) → is_some (zoned_step (part_of n line) z).open_zone ≡ open_then (is_some z.open_zone) line
 open_step n z (Ok None) = refl
 open_step n z (Err rule) = refl
-open_step n z (Ok (Some s)) = by (kind_of s.code)
+open_step n z (Ok (Some s)) = by (kind_of s.code) ∙ ap₂ (λ a b. cond a b (is_some z.open_zone)) (sym (starts_same s.code)) (sym (zone_same s.code))
   where
-    by : (k : ZoneKind) → is_some (zoned_step (part_by k n s) z).open_zone ≡ cond (starts k) (is_zone k) (is_some z.open_zone)
+    by : (k : ZoneKind) → is_some (zoned_step (part_by k n s) z).open_zone ≡ cond (is_start_kind k) (is_zone_kind k) (is_some z.open_zone)
     by Next = some_mapped _ z.open_zone
     by Remark = refl
     by Bom = refl
@@ -50,8 +51,12 @@ open_through : (b : Bool) (lines : List Reading) → some_bears starts lines ≡
 open_through b [] none = refl
 open_through b (line ∷ lines) none = ap (λ c. open_by (cond c (bears is_zone line) b) lines) (or_first _ _ none) ∙ open_through b lines (or_second _ _ none)
 
+not_either : (a b : Bool) → not (a || b) ≡ true → not a ≡ true
+not_either true b e = e
+not_either false b e = refl
+
 zone_starts : (line : Reading) → bears is_zone line ≡ true → bears starts line ≡ true
-zone_starts (Ok (Some s)) e = or_left _ _ e
+zone_starts (Ok (Some s)) e = not_either (code_is "NEX" s.code) (code_is "REM" s.code) e
 zone_starts (Ok None) e = absurd cc
 zone_starts (Err rule) e = absurd cc
 

@@ -3,6 +3,7 @@ pub mod Numbers
 pub mod Spelled
 pub mod Cut
 pub mod FirstBroken
+pub mod KindsSaid
 pub mod Rules
 pub mod Passes
 pub mod Ends

@@ -5,8 +5,8 @@ use Rattle.std.proofs.lemmas.Bool.{both_ways}
 use Rattle.std.proofs.lemmas.List.{append_assoc, length_push}
 use Rattle.edi_line.specs.AllBroken.{AreAllBroken}
 use Rattle.edi_line.specs.Feeding.{seen_in}
-use Rattle.edi_line.specs.LineKinds.{kind_of, is_rty}
-use Rattle.edi_line.specs.LineRules.{line_tests, BreaksHere, BreaksAt, BreaksIn, BreaksLineRule}
+use Rattle.edi_line.specs.inner.Kinds.{kind_of, is_rty}
+use Rattle.edi_line.specs.LineRules.{BreaksHere, BreaksAt, BreaksIn, BreaksLineRule}
 use Rattle.edi_line.specs.Refusal.{test, BreaksTest}
 use Rattle.edi_line.specs.Spelling.{Reading}
 use Rattle.edi_line.specs.inner.AllBroken.{with_broken, tests_of, TakesLine, HoldsBroken}
@@ -19,20 +19,23 @@ use Rattle.edi_line.proofs.AllBroken.{all_same, all_none, all_push, one_more, Al
 use Rattle.edi_line.proofs.FirstBroken.{none_broken}
 use Rattle.edi_line.proofs.Passes.{next_of, taken_all}
 use Rattle.edi_line.proofs.Readings.{rule_said, rule_read}
-use Rattle.edi_line.proofs.Rules.{AreApart, two_cuts, no_cut_of_none, noted_seen}
+use Rattle.edi_line.proofs.Rules.{AreApart, two_cuts, no_cut_of_none, noted_seen, tests_same, line_tests, FailsHere, fails_here, breaks_here}
 
 -- ---- the rules of one line
 
+failed_tested : (before : List Reading) (line : Reading) (r : ℕ) → FailsHere before line r → BreaksTest (tests_of (seen_in before) line) r
+failed_tested before (Ok (Some s)) r (inl e) = cc
+failed_tested before (Ok (Some s)) r (inr h) = subst (λ tests. BreaksTest tests r) (tests_same before s) h
+failed_tested before (Ok None) r (inl e) = cc
+failed_tested before (Ok None) r (inr h) = none_broken (line_tests before (Ok None)) refl r h
+failed_tested before (Err rule) r (inl e) = inl (cc, refl)
+failed_tested before (Err rule) r (inr h) = absurd (none_broken (line_tests before (Err rule)) refl r h)
+
 here_tested : (before : List Reading) (line : Reading) (r : ℕ) → BreaksHere before line r → BreaksTest (tests_of (seen_in before) line) r
-here_tested before (Ok (Some s)) r (inl e) = cc
-here_tested before (Ok (Some s)) r (inr h) = h
-here_tested before (Ok None) r (inl e) = cc
-here_tested before (Ok None) r (inr h) = none_broken (line_tests before (Ok None)) refl r h
-here_tested before (Err rule) r (inl e) = inl (cc, refl)
-here_tested before (Err rule) r (inr h) = absurd (none_broken (line_tests before (Err rule)) refl r h)
+here_tested before line r h = failed_tested before line r (fails_here before line r h)
 
 tested_here : (before : List Reading) (line : Reading) (r : ℕ) → BreaksTest (tests_of (seen_in before) line) r → BreaksHere before line r
-tested_here before (Ok (Some s)) r h = inr h
+tested_here before (Ok (Some s)) r h = breaks_here before (Ok (Some s)) r (inr (subst (λ tests. BreaksTest tests r) (sym (tests_same before s)) h))
 tested_here before (Ok None) r h = absurd h
 tested_here before (Err rule) r (inl h) = inl (ap (λ n. Err n) h.0)
 tested_here before (Err rule) r (inr h) = absurd h
@@ -141,15 +144,15 @@ all_finished lines b list h e = go b.order.eom (ap (λ o. o.eom) h.order) e
   where
     to : (seen_in lines).eom ≡ false → (r p : ℕ) → one_more (BreaksAt lines) 106 (b.line + 1) r p → BreaksIn lines r p
     to lacks r p (inl broken) = inl broken
-    to lacks r p (inr same) = inr (record { rule_is = same.0; place_is = omega (arith, same.1, h.counted); lacks = lacks })
+    to lacks r p (inr same) = inr (same.0, omega (arith, same.1, h.counted), lacks)
 
     from : (r p : ℕ) → BreaksIn lines r p → one_more (BreaksAt lines) 106 (b.line + 1) r p
     from r p (inl broken) = inl broken
-    from r p (inr l) = inr (l.rule_is, omega (arith, l.place_is, h.counted))
+    from r p (inr l) = inr (l.0, omega (arith, l.1, h.counted))
 
     from_none : (seen_in lines).eom ≡ true → (r p : ℕ) → BreaksIn lines r p → BreaksAt lines r p
     from_none has r p (inl broken) = broken
-    from_none has r p (inr l) = absurd (both_ways _ l.lacks has)
+    from_none has r p (inr l) = absurd (both_ways _ l.2 has)
 
     go : (eom : Bool) → eom ≡ (seen_in lines).eom → list ≡ cond eom b.list.items (b.list.items ++ record { rule = 106; at = b.line + 1 } ∷ []) → AreAllBroken (BreaksIn lines) list
     go true has e = subst (AreAllBroken (BreaksIn lines)) (sym e) (all_same (BreaksAt lines) (BreaksIn lines) _ (λ r p broken. inl broken) (from_none (sym has)) h.list)

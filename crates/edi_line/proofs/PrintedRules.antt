@@ -1,5 +1,5 @@
 -- Printed zones break no rule of lines.
-use Rattle.std.proofs.Common.{◌≡◌, ℕ, ◌+◌, ◌<◌, ◌≤◌, Bool, true, false, ◌||◌, Option, Some, None, List, [], ◌∷◌, ◌++◌, map, length, flat_map, option_to_list, IfSome, refl, sym, ap, ◌∙◌, subst, inl, inr, arith}
+use Rattle.std.proofs.Common.{◌≡◌, codes, ℕ, ◌+◌, ◌<◌, ◌≤◌, Bool, true, false, ◌||◌, Option, Some, None, List, [], ◌∷◌, ◌++◌, map, length, flat_map, option_to_list, IfSome, refl, sym, ap, ◌∙◌, subst, inl, inr, arith}
 use Rattle.std.specs.List.{AllByRecursion}
 use Rattle.std.proofs.lemmas.Bool.{both_ways, ne_eqb}
 use Rattle.std.proofs.lemmas.List.{append_assoc, append-nil}
@@ -7,7 +7,8 @@ use Rattle.edi_line.specs.ZoneData.{ZoneData}
 use Rattle.edi_line.specs.Spelling.{Reading}
 use Rattle.edi_line.specs.Zones.{IsGroup, IsFileOf}
 use Rattle.edi_line.specs.inner.Zones.{readings_of}
-use Rattle.edi_line.specs.LineKinds.{kind_of, is_inner, is_zone}
+use Rattle.edi_line.specs.LineKinds.{is_inner}
+use Rattle.edi_line.specs.inner.Kinds.{kind_of, is_inner_kind, is_zone_kind}
 use Rattle.edi_line.specs.LineRules.{BreaksIn, BreaksLineRule}
 use Rattle.edi_line.specs.Refusal.{IsUnbroken}
 use Rattle.edi_line.specs.Printing.{with_value, lines_of_zone, printed, IsPrintable}
@@ -18,6 +19,7 @@ use Rattle.edi_line.specs.declared.order.ZoneKind.TheVariants.{Bom, Cse, Rty, Eo
 use Rattle.edi_line.specs.declared.order.Order.{Order}
 use Rattle.edi_line.proofs.Readings.{rule_read}
 use Rattle.edi_line.proofs.Rules.{noted_seen, no_rule_broken, no_cut_of_none}
+use Rattle.edi_line.proofs.KindsSaid.{zone_same, inner_same}
 use Rattle.edi_line.proofs.Printed.{said, zone_readings, lines_broken}
 
 -- these lines break no rule where this has been seen, and then this is seen
@@ -78,7 +80,7 @@ or_true true = refl
 or_true false = refl
 
 -- a zone within a group has no code of its own
-only_other : (kind : ZoneKind) → is_zone kind ≡ true → is_inner kind ≡ true → kind ≡ Other
+only_other : (kind : ZoneKind) → is_zone_kind kind ≡ true → is_inner_kind kind ≡ true → kind ≡ Other
 only_other Bom zone inner = cc
 only_other Cse zone inner = cc
 only_other Rty zone inner = cc
@@ -88,11 +90,11 @@ only_other Remark zone inner = cc
 only_other Other zone inner = refl
 
 -- the other zones of a record
-others_run : (zs rest : List ZoneData) (cse : Bool) (records : ℕ) (last : Order) → ArePrintable zs → AllByRecursion (λ z. is_inner (kind_of z.code) ≡ true) zs
+others_run : (zs rest : List ZoneData) (cse : Bool) (records : ℕ) (last : Order) → ArePrintable zs → AllByRecursion (λ z. is_inner z.code ≡ true) zs
     → Runs (in_file cse true false records) (readings_of (printed rest)) last → Runs (in_file cse true false records) (readings_of (printed (zs ++ rest))) last
 others_run [] rest cse records last p h more = more
 others_run (z ∷ zs) rest cse records last p h more =
-    let other : kind_of z.code ≡ Other = only_other (kind_of z.code) p.0.zone h.0 in
+    let other : kind_of z.code ≡ Other = only_other (kind_of z.code) (sym (zone_same z.code) ∙ p.0.zone) (sym (inner_same z.code) ∙ h.0) in
     step_runs z (zs ++ rest) p.0 (in_file cse true false records) last cse true false records (rw other refl)
     (rw other (ap (λ x. in_file x true false (records + 0)) (or_same cse) ∙ ap (λ n. in_file cse true false n) (let e : records + 0 ≡ records = omega arith in e)))
     (others_run zs rest cse records last p.1 h.1 more)
@@ -121,7 +123,7 @@ record Ends (seen : Order) (lines : List Reading) : Type 0 where
   runs : Runs seen lines last
   eom : last.eom ≡ true
 
-groups_run : (gs : List (List ZoneData)) (tail : ZoneData) (cse rty : Bool) (n : ℕ) → ArePrintable (flat_map (λ g. g) gs ++ tail ∷ []) → AllByRecursion IsGroup gs → kind_of tail.code ≡ Eom → n + length gs ≤ 9999999
+groups_run : (gs : List (List ZoneData)) (tail : ZoneData) (cse rty : Bool) (n : ℕ) → ArePrintable (flat_map (λ g. g) gs ++ tail ∷ []) → AllByRecursion IsGroup gs → tail.code ≡ codes "EOM" → n + length gs ≤ 9999999
     → Ends (in_file cse rty false n) (readings_of (printed (flat_map (λ g. g) gs ++ tail ∷ [])))
 groups_run [] tail cse rty n p h e few = record {
   last = in_file cse rty true n;
@@ -142,7 +144,7 @@ groups_run (g ∷ gs) tail cse rty n p h e few =
       eom = more.eom;
     }
 
-charset_runs : (charset : Option ZoneData) (zs : List ZoneData) → IfSome charset (λ z. kind_of z.code ≡ Cse) → ArePrintable (option_to_list charset ++ zs)
+charset_runs : (charset : Option ZoneData) (zs : List ZoneData) → IfSome charset (λ z. z.code ≡ codes "CSE") → ArePrintable (option_to_list charset ++ zs)
     → ((cse : Bool) → Ends (in_file cse false false 0) (readings_of (printed zs))) → Ends (in_file false false false 0) (readings_of (printed (option_to_list charset ++ zs)))
 charset_runs None zs h p more = more false
 charset_runs (Some z) zs h p more =
@@ -189,4 +191,4 @@ printed_unbroken zones charset groups f p few rule place broken = along (rule_re
     along (inr l) =
         let run = file_runs zones charset groups f p few in
         let seen = all_seen [] (readings_of (printed zones)) run.last run.runs in
-        both_ways _ l.lacks (ap (λ o. o.eom) (sym seen) ∙ run.eom)
+        both_ways _ l.2 (ap (λ o. o.eom) (sym seen) ∙ run.eom)

@@ -1,23 +1,26 @@
 -- What a reader holds against the rules of the whole file.
-use Rattle.std.proofs.Common.{◌≡◌, ℕ, suc, ◌+◌, ◌<◌, ◌≤◌, ◌⊎◌, Bool, true, false, ◌||◌, cond, Option, Some, None, Ok, Err, List, [], ◌∷◌, ◌++◌, length, refl, sym, ap, ◌∙◌, subst, inl, inr, ⊎_elim, arith, length-append, count_by, option_map, option_to_list}
+use Rattle.std.proofs.Common.{◌≡◌, ℕ, suc, ◌+◌, ◌<◌, ◌≤◌, ◌⊎◌, Bool, true, false, not, ◌&&◌, ◌||◌, ◌==◌, cond, Option, Some, None, Ok, Err, List, [], ◌∷◌, ◌++◌, length, refl, sym, ap, ◌∙◌, subst, inl, inr, ⊎_elim, arith, length-append, count_by, option_map, option_to_list}
 use Rattle.std.specs.List.{list_any}
 use Rattle.std.proofs.lemmas.Bool.{both_ways}
 use Rattle.std.proofs.lemmas.List.{append-nil, append_assoc, length_push}
 use Rattle.std.proofs.lemmas.List.Sums.{sum_by_push}
+use Rattle.edi_line.specs.Bytes.{most_records}
 use Rattle.edi_line.specs.ZoneData.{ZoneData}
 use Rattle.edi_line.specs.Spelling.{Spelling, Reading}
 use Rattle.edi_line.specs.inner.Zones.{Part, part_of, parts_after, with_more}
 use Rattle.edi_line.proofs.ZonesFound.{continuation, whole_zones}
-use Rattle.edi_line.specs.LineKinds.{kind_of, is_bom, is_cse, is_rty, is_eom, is_zone, starts, bears, some_bears}
+use Rattle.edi_line.specs.LineKinds.{code_is, is_zone, is_other, starts, bears, some_bears}
+use Rattle.edi_line.specs.inner.Kinds.{kind_of}
 use Rattle.edi_line.specs.inner.Zones.Part.{Blank, Continues, IsRemark, Begins}
-use Rattle.edi_line.specs.LineRules.{line_tests, BreaksHere, BreaksAt, LacksEnd, BreaksIn}
-use Rattle.edi_line.specs.Refusal.{IsLeastBroken, IsUnbroken}
+use Rattle.edi_line.specs.LineRules.{BreaksHere, BreaksAt, LacksEnd, BreaksIn}
+use Rattle.edi_line.specs.Refusal.{Test, test, BreaksTest, IsLeastBroken, IsUnbroken}
+use Rattle.edi_line.specs.inner.Refusal.{first_broken}
 use Rattle.edi_line.specs.inner.Held.{kind_tests, rule_of, noted, no_zones, closed, zoned_step, zoned_after, zoned, TakesNextLine, Stands}
 use Rattle.edi_line.specs.Feeding.{seen_in, Zoned}
-use Rattle.edi_line.specs.declared.order.ZoneKind.{ZoneKind}
 use Rattle.edi_line.specs.declared.order.Order.{Order}
 use Rattle.edi_line.specs.declared.reading.Reader.{Reader}
 use Rattle.edi_line.proofs.FirstBroken.{none_broken, IsLeast, first_is_least}
+use Rattle.edi_line.proofs.KindsSaid.{bom_same, cse_same, rty_same, eom_same, next_same, zone_same, starts_same, other_same}
 
 -- ---- lists
 
@@ -71,33 +74,36 @@ order_same a b started begun bom cse rty eom records =
     ∙ ap (λ x. order_made b.started b.begun b.bom b.cse b.rty b.eom x) records
 
 -- what one line more does to each field
-seen_more : (p : ZoneKind → Bool) (done : List Reading) (line : Reading) → (some_bears p done || bears p line) ≡ some_bears p (done ++ line ∷ [])
+seen_more : (p : List ℕ → Bool) (done : List Reading) (line : Reading) → (some_bears p done || bears p line) ≡ some_bears p (done ++ line ∷ [])
 seen_more p done line = sym (list_any-push (bears p) done line)
 
-count_more : (done : List Reading) (line : Reading) → count_by (bears is_rty) done + cond (bears is_rty line) 1 0 ≡ count_by (bears is_rty) (done ++ line ∷ [])
-count_more done line = sym (sum_by_push (λ x. cond (bears is_rty x) 1 0) done line)
+count_more : (done : List Reading) (line : Reading) → count_by (bears (code_is "RTY")) done + cond (bears (code_is "RTY") line) 1 0 ≡ count_by (bears (code_is "RTY")) (done ++ line ∷ [])
+count_more done line = sym (sum_by_push (λ x. cond (bears (code_is "RTY") x) 1 0) done line)
 
 no_more : (m n : ℕ) (b : Bool) → b ≡ false → m + cond b 1 0 ≡ n → m ≡ n
 no_more m n false none e = omega (arith, e)
 no_more m n true none e = absurd (cc)
 
 -- a line that bears nothing
-same_seen : (done : List Reading) (line : Reading) → ((p : ZoneKind → Bool) → bears p line ≡ false) → seen_in done ≡ seen_in (done ++ line ∷ [])
-same_seen done line none = order_same _ _ (at starts) (at is_zone) (at is_bom) (at is_cse) (at is_rty) (at is_eom)
-    (no_more (count_by (bears is_rty) done) _ (bears is_rty line) (none is_rty) (count_more done line))
+same_seen : (done : List Reading) (line : Reading) → ((p : List ℕ → Bool) → bears p line ≡ false) → seen_in done ≡ seen_in (done ++ line ∷ [])
+same_seen done line none = order_same _ _ (at starts) (at is_zone) (at (code_is "BOM")) (at (code_is "CSE")) (at (code_is "RTY")) (at (code_is "EOM"))
+    (no_more (count_by (bears (code_is "RTY")) done) _ (bears (code_is "RTY") line) (none (code_is "RTY")) (count_more done line))
   where
-    at : (p : ZoneKind → Bool) → some_bears p done ≡ some_bears p (done ++ line ∷ [])
+    at : (p : List ℕ → Bool) → some_bears p done ≡ some_bears p (done ++ line ∷ [])
     at p = none_more (some_bears p done) ∙ ap (λ b. some_bears p done || b) (sym (none p)) ∙ seen_more p done line
 
 pub noted_seen : (done : List Reading) (line : Reading) → noted (seen_in done) line ≡ seen_in (done ++ line ∷ [])
 noted_seen done (Ok (Some s)) = order_same _ _
-    (seen_more starts done (Ok (Some s)))
-    (seen_more is_zone done (Ok (Some s)))
-    (seen_more is_bom done (Ok (Some s)))
-    (seen_more is_cse done (Ok (Some s)))
-    (seen_more is_rty done (Ok (Some s)))
-    (seen_more is_eom done (Ok (Some s)))
-    (count_more done (Ok (Some s)))
+    (more starts _ (starts_same s.code))
+    (more is_zone _ (zone_same s.code))
+    (more (code_is "BOM") _ (bom_same s.code))
+    (more (code_is "CSE") _ (cse_same s.code))
+    (more (code_is "RTY") _ (rty_same s.code))
+    (more (code_is "EOM") _ (eom_same s.code))
+    (ap (λ b. count_by (bears (code_is "RTY")) done + cond b 1 0) (sym (rty_same s.code)) ∙ count_more done (Ok (Some s)))
+  where
+    more : (p : List ℕ → Bool) (b : Bool) → p s.code ≡ b → (some_bears p done || b) ≡ some_bears p (done ++ Ok (Some s) ∷ [])
+    more p b same = ap (λ c. some_bears p done || c) (sym same) ∙ seen_more p done (Ok (Some s))
 noted_seen done (Ok None) = same_seen done (Ok None) (λ p. refl)
 noted_seen done (Err rule) = same_seen done (Err rule) (λ p. refl)
 
@@ -143,33 +149,79 @@ parts_push n (d ∷ done) line = ap (λ ps. part_of (suc n) d ∷ ps) (parts_pus
 
 -- ---- the rule that a line breaks
 
+abbrev tests_made : Order → Bool → Bool → Bool → Bool → Bool → Bool → List Test
+tests_made seen next zone bom cse other rty =
+    test 104 (next && not seen.started)
+    ∷ test 105 (zone && (not bom && not seen.begun))
+    ∷ test 107 (zone && seen.eom)
+    ∷ test 108 ((bom && seen.bom) || (cse && (seen.cse || seen.rty)))
+    ∷ test 109 (other && not seen.rty)
+    ∷ test 110 (rty && (seen.records == most_records))
+    ∷ []
+
+-- whether a line breaks the rules of its place, behind these lines
+abbrev pub line_tests : List Reading → Reading → List Test
+line_tests before line = tests_made (seen_in before) (bears (code_is "NEX") line) (bears is_zone line) (bears (code_is "BOM") line) (bears (code_is "CSE") line) (bears is_other line) (bears (code_is "RTY") line)
+
+abbrev pub FailsHere : List Reading → Reading → ℕ → Type 0
+FailsHere before line rule = (line ≡ Err rule) ⊎ BreaksTest (line_tests before line) rule
+
+pub fails_here : (before : List Reading) (line : Reading) (rule : ℕ) → BreaksHere before line rule → FailsHere before line rule
+fails_here before line rule (inl e) = inl e
+fails_here before line rule (inr (inl h)) = inr (inl (sym h.0, h.1))
+fails_here before line rule (inr (inr (inl h))) = inr (inr (inl (sym h.0, h.1)))
+fails_here before line rule (inr (inr (inr (inl h)))) = inr (inr (inr (inl (sym h.0, h.1))))
+fails_here before line rule (inr (inr (inr (inr (inl h))))) = inr (inr (inr (inr (inl (sym h.0, h.1)))))
+fails_here before line rule (inr (inr (inr (inr (inr (inl h)))))) = inr (inr (inr (inr (inr (inl (sym h.0, h.1))))))
+fails_here before line rule (inr (inr (inr (inr (inr (inr h)))))) = inr (inr (inr (inr (inr (inr (inl (sym h.0, h.1)))))))
+
+pub breaks_here : (before : List Reading) (line : Reading) (rule : ℕ) → FailsHere before line rule → BreaksHere before line rule
+breaks_here before line rule (inl e) = inl e
+breaks_here before line rule (inr (inl h)) = inr (inl (sym h.0, h.1))
+breaks_here before line rule (inr (inr (inl h))) = inr (inr (inl (sym h.0, h.1)))
+breaks_here before line rule (inr (inr (inr (inl h)))) = inr (inr (inr (inl (sym h.0, h.1))))
+breaks_here before line rule (inr (inr (inr (inr (inl h))))) = inr (inr (inr (inr (inl (sym h.0, h.1)))))
+breaks_here before line rule (inr (inr (inr (inr (inr (inl h)))))) = inr (inr (inr (inr (inr (inl (sym h.0, h.1))))))
+breaks_here before line rule (inr (inr (inr (inr (inr (inr (inl h))))))) = inr (inr (inr (inr (inr (inr (sym h.0, h.1))))))
+breaks_here before line rule (inr (inr (inr (inr (inr (inr (inr h))))))) = absurd h
+
+-- the rules that a line may break by its place are those of its kind
+pub tests_same : (before : List Reading) (s : Spelling) → line_tests before (Ok (Some s)) ≡ kind_tests (seen_in before) (kind_of s.code)
+tests_same before s = λ i. tests_made (seen_in before) (next_same s.code i) (zone_same s.code i) (bom_same s.code i) (cse_same s.code i) (other_same s.code i) (rty_same s.code i)
+
+none_fails : (before : List Reading) (line : Reading) → rule_of (seen_in before) line ≡ None → (rule : ℕ) → FailsHere before line rule → ⊥
+none_fails before (Ok (Some s)) e rule (inl p) = cc
+none_fails before (Ok (Some s)) e rule (inr p) = none_broken (line_tests before (Ok (Some s))) (ap first_broken (tests_same before s) ∙ e) rule p
+none_fails before (Ok None) e rule (inl p) = cc
+none_fails before (Ok None) e rule (inr p) = none_broken (line_tests before (Ok None)) refl rule p
+none_fails before (Err fault) e rule h = cc
+
 pub no_rule_broken : (before : List Reading) (line : Reading) → rule_of (seen_in before) line ≡ None → (rule : ℕ) → BreaksHere before line rule → ⊥
-no_rule_broken before (Ok (Some s)) e rule (inl p) = cc
-no_rule_broken before (Ok (Some s)) e rule (inr p) = none_broken (kind_tests (seen_in before) (kind_of s.code)) e rule p
-no_rule_broken before (Ok None) e rule (inl p) = cc
-no_rule_broken before (Ok None) e rule (inr p) = none_broken (line_tests before (Ok None)) refl rule p
-no_rule_broken before (Err fault) e rule h = cc
+no_rule_broken before line e rule h = none_fails before line e rule (fails_here before line rule h)
 
 pub record BreaksFirst (before : List Reading) (line : Reading) (rule : ℕ) : Type 0 where
   pub breaks : BreaksHere before line rule
   pub least : (r : ℕ) → BreaksHere before line r → rule ≤ r
 
-zone_least : (before : List Reading) (s : Spelling) (rule : ℕ) → IsLeast (kind_tests (seen_in before) (kind_of s.code)) rule → (r : ℕ) → BreaksHere before (Ok (Some s)) r → rule ≤ r
+zone_least : (before : List Reading) (s : Spelling) (rule : ℕ) → IsLeast (line_tests before (Ok (Some s))) rule → (r : ℕ) → FailsHere before (Ok (Some s)) r → rule ≤ r
 zone_least before s rule found r (inl e) = cc
 zone_least before s rule found r (inr h) = found.least r h
 
-own_least : (before : List Reading) (fault rule : ℕ) → fault ≡ rule → (r : ℕ) → BreaksHere before (Err fault) r → rule ≤ r
+own_least : (before : List Reading) (fault rule : ℕ) → fault ≡ rule → (r : ℕ) → FailsHere before (Err fault) r → rule ≤ r
 own_least before fault rule same r (inl e) = let is : fault ≡ r = cc in omega (arith, same, is)
 own_least before fault rule same r (inr h) = absurd (none_broken (line_tests before (Err fault)) refl r h)
 
 pub rule_broken : (before : List Reading) (line : Reading) (rule : ℕ) → rule_of (seen_in before) line ≡ Some rule → BreaksFirst before line rule
 rule_broken before (Ok (Some s)) rule e =
-    let found = first_is_least (kind_tests (seen_in before) (kind_of s.code)) rule refl e in
-    record { breaks = inr found.breaks; least = zone_least before s rule found }
+    let found = first_is_least (line_tests before (Ok (Some s))) rule refl (ap first_broken (tests_same before s) ∙ e) in
+    record {
+      breaks = breaks_here before (Ok (Some s)) rule (inr found.breaks);
+      least = λ r h. zone_least before s rule found r (fails_here before (Ok (Some s)) r h);
+    }
 rule_broken before (Ok None) rule e = cc
 rule_broken before (Err fault) rule e =
     let same : fault ≡ rule = cc in
-    record { breaks = inl (ap (λ r. Err r) same); least = own_least before fault rule same }
+    record { breaks = inl (ap (λ r. Err r) same); least = λ r h. own_least before fault rule same r (fails_here before (Err fault) r h) }
 
 -- ---- steps
 
@@ -224,7 +276,7 @@ refused_here lines done line rest rule place cut sound place_is e =
     }
   where
     missed : (r p : ℕ) → LacksEnd lines r p → (place < p) ⊎ ((place ≡ p) × (rule ≤ r))
-    missed r p l = let long = ap length cut in let joined = length-append done (line ∷ rest) in inl (omega (arith, long, joined, l.place_is, place_is))
+    missed r p l = let long = ap length cut in let joined = length-append done (line ∷ rest) in inl (omega (arith, long, joined, l.1, place_is))
 
     at_cut : (r p : ℕ) (b : BreaksAt lines r p) → BreaksFirst done line rule → AreApart done line b.before b.line → (place < p) ⊎ ((place ≡ p) × (rule ≤ r))
     at_cut r p b found (inl (zs, same)) = absurd (sound r p (record { before = b.before; line = b.line; after = zs; cut = same; place_is = b.place_is; breaks = b.breaks }))
@@ -238,13 +290,13 @@ refused_here lines done line rest rule place cut sound place_is e =
 
 pub refused_at_end : (lines : List Reading) (rule place : ℕ) → IsFaultless lines → (seen_in lines).eom ≡ false → rule ≡ 106 → place ≡ length lines + 1 → IsLeastBroken (BreaksIn lines) rule place
 refused_at_end lines rule place sound lacks rule_is place_is = record {
-  is = inr (record { rule_is = rule_is; place_is = place_is; lacks = lacks });
+  is = inr (rule_is, place_is, lacks);
   least = λ r p h. ⊎_elim
       (λ b. absurd (sound r p b))
-      (λ l. inr (omega (arith, l.place_is, place_is), omega (arith, l.rule_is, rule_is)))
+      (λ l. inr (omega (arith, l.1, place_is), omega (arith, l.0, rule_is)))
       h;
 }
 
 pub sound_at_end : (lines : List Reading) → IsFaultless lines → (seen_in lines).eom ≡ true → IsUnbroken (BreaksIn lines)
 sound_at_end lines sound has rule place (inl b) = sound rule place b
-sound_at_end lines sound has rule place (inr l) = both_ways _ l.lacks has
+sound_at_end lines sound has rule place (inr l) = both_ways _ l.2 has

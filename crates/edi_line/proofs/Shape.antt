@@ -8,7 +8,8 @@ use Rattle.edi_line.specs.Spelling.{Spelling, Reading}
 use Rattle.edi_line.specs.Zones.{IsGroup, HasShape, begins_group, groups_of}
 use Rattle.edi_line.specs.inner.Zones.{part_by, parts_after, with_more, entry_of}
 use Rattle.edi_line.proofs.ZonesFound.{continuation, whole_zones}
-use Rattle.edi_line.specs.LineKinds.{kind_of, is_inner, is_zone, is_rty}
+use Rattle.edi_line.specs.LineKinds.{is_inner}
+use Rattle.edi_line.specs.inner.Kinds.{kind_of, is_inner_kind, is_zone_kind, is_rty}
 use Rattle.edi_line.specs.LineRules.{BreaksAt}
 use Rattle.edi_line.specs.inner.Held.{kind_tests, rule_of, rule_of_kind, noted, noted_kind, no_zones, closed, zoned_after, zoned, Stands}
 use Rattle.edi_line.specs.Feeding.{seen_in}
@@ -19,6 +20,7 @@ use Rattle.edi_line.specs.declared.fault.LineFault.{LineFault}
 use Rattle.edi_line.specs.declared.reading.Reader.{Reader}
 use Rattle.edi_line.specs.declared.zone.Zone.{Zone}
 use Rattle.edi_line.proofs.FirstBroken.{none_broken}
+use Rattle.edi_line.proofs.KindsSaid.{inner_same}
 use Rattle.edi_line.proofs.Said.{code_bom, code_cse, code_rty, code_eom, code_inner}
 use Rattle.edi_line.proofs.Rules.{IsFaultless, noted_seen, rule_broken, closed_zones}
 
@@ -45,7 +47,7 @@ good_from done (line ∷ lines) sound eom =
 
 -- ---- after the end
 
-after_end : (seen : Order) (kind : ZoneKind) → is_zone kind ≡ true → seen.eom ≡ true → rule_of_kind seen kind ≡ None → ⊥
+after_end : (seen : Order) (kind : ZoneKind) → is_zone_kind kind ≡ true → seen.eom ≡ true → rule_of_kind seen kind ≡ None → ⊥
 after_end seen kind zone eom e = none_broken (kind_tests seen kind) e 107 (inr (inr (inl (refl, and_from _ _ zone eom))))
 
 -- the entries of these lines
@@ -76,9 +78,9 @@ record IsTail (zones : List ZoneData) : Type 0 where
   groups : List (List ZoneData)
   tail : ZoneData
   joined : zones ≡ rest ++ (flat_map (λ g. g) groups ++ tail ∷ [])
-  others : AllByRecursion (λ z. is_inner (kind_of z.code) ≡ true) rest
+  others : AllByRecursion (λ z. is_inner z.code ≡ true) rest
   groups_are : AllByRecursion IsGroup groups
-  tail_is : kind_of tail.code ≡ Eom
+  tail_is : tail.code ≡ codes "EOM"
 
 abbrev in_records : Bool → ℕ → Order
 in_records cse records = record { started = true; begun = true; bom = true; cse = cse; rty = true; eom = false; records = records }
@@ -101,7 +103,7 @@ group_here z zones leads t = record {
   tail = t.tail;
   joined = ap (λ zs. z ∷ zs) t.joined ∙ sym (append_assoc (z ∷ t.rest) (flat_map (λ g. g) t.groups) (t.tail ∷ []));
   others = tt;
-  groups_are = (record { first = z; rest = t.rest; joined = refl; leads = leads; others = t.others }, t.groups_are);
+  groups_are = (record { first = z; rest = t.rest; joined = refl; leads = code_rty z.code leads; others = t.others }, t.groups_are);
   tail_is = t.tail_is;
 }
 
@@ -111,7 +113,7 @@ other_here z zones other t = record {
   groups = t.groups;
   tail = t.tail;
   joined = ap (λ zs. z ∷ zs) t.joined;
-  others = (ap is_inner other, t.others);
+  others = (inner_same z.code ∙ ap is_inner_kind other, t.others);
   groups_are = t.groups_are;
   tail_is = t.tail_is;
 }
@@ -124,7 +126,7 @@ end_here z zones end none = record {
   joined = ap (λ zs. z ∷ zs) none;
   others = tt;
   groups_are = tt;
-  tail_is = end;
+  tail_is = code_eom z.code end;
 }
 
 no_charset : (cse : Bool) (r : ℕ) → rule_of_kind (in_records cse r) Cse ≡ None → ⊥
@@ -156,19 +158,19 @@ record IsBody (zones : List ZoneData) : Type 0 where
   tail : ZoneData
   joined : zones ≡ flat_map (λ g. g) groups ++ tail ∷ []
   groups_are : AllByRecursion IsGroup groups
-  tail_is : kind_of tail.code ≡ Eom
+  tail_is : tail.code ≡ codes "EOM"
 
 first_group : (z : ZoneData) (zones : List ZoneData) → kind_of z.code ≡ Rty → IsTail zones → IsBody (z ∷ zones)
 first_group z zones leads t = record {
   groups = (z ∷ t.rest) ∷ t.groups;
   tail = t.tail;
   joined = ap (λ zs. z ∷ zs) t.joined ∙ sym (append_assoc (z ∷ t.rest) (flat_map (λ g. g) t.groups) (t.tail ∷ []));
-  groups_are = (record { first = z; rest = t.rest; joined = refl; leads = leads; others = t.others }, t.groups_are);
+  groups_are = (record { first = z; rest = t.rest; joined = refl; leads = code_rty z.code leads; others = t.others }, t.groups_are);
   tail_is = t.tail_is;
 }
 
 only_end : (z : ZoneData) (zones : List ZoneData) → kind_of z.code ≡ Eom → zones ≡ [] → IsBody (z ∷ zones)
-only_end z zones end none = record { groups = []; tail = z; joined = ap (λ zs. z ∷ zs) none; groups_are = tt; tail_is = end }
+only_end z zones end none = record { groups = []; tail = z; joined = ap (λ zs. z ∷ zs) none; groups_are = tt; tail_is = code_eom z.code end }
 
 body_of : (r n : ℕ) (lines : List Reading) → IsGood (before_records true r) lines → IsBody (zones_after n lines)
 body_of r n [] good = let e : false ≡ true = good in absurd (cc)
@@ -191,7 +193,7 @@ record IsFront (zones : List ZoneData) : Type 0 where
   charset : Option ZoneData
   body : List ZoneData
   joined : zones ≡ option_to_list charset ++ body
-  charset_is : IfSome charset (λ z. kind_of z.code ≡ Cse)
+  charset_is : IfSome charset (λ z. z.code ≡ codes "CSE")
   is_body : IsBody body
 
 bare : (zones : List ZoneData) → IsBody zones → IsFront zones
@@ -206,7 +208,7 @@ front_of r n (Ok (Some s) ∷ lines) good = here (λ m more. front_of m (suc n) 
     here : ((m : ℕ) → IsGood (before_records false m) lines → IsFront (zones_after (suc n) lines)) → (k : ZoneKind) → kind_of s.code ≡ k
         → (rule_of_kind (before_records false r) k ≡ None) × IsGood (noted_kind (before_records false r) k) lines → IsFront (whole_zones (part_by k (suc n) s ∷ parts_after (suc n) lines))
     here more Bom e g = let h : ◌≡◌ {A = Option ℕ} (Some 108) None = g.0 in absurd (cc)
-    here more Cse e g = record { charset = Some (whole_zone n s lines); body = zones_after (suc n) lines; joined = refl; charset_is = e; is_body = body_of _ (suc n) lines g.1 }
+    here more Cse e g = record { charset = Some (whole_zone n s lines); body = zones_after (suc n) lines; joined = refl; charset_is = code_cse s.code e; is_body = body_of _ (suc n) lines g.1 }
     here more Rty e g = bare _ (first_group (whole_zone n s lines) _ e (tail_of false _ (suc n) lines g.1))
     here more Eom e g = bare _ (only_end (whole_zone n s lines) _ e (none_after (noted_kind (before_records false r) Eom) (suc n) lines refl g.1))
     here more Other e g = let h : ◌≡◌ {A = Option ℕ} (Some 109) None = g.0 in absurd (cc)
@@ -221,7 +223,7 @@ shaped z zones head f = (
     head = z;
     tail = f.is_body.tail;
     joined = ap (λ zs. z ∷ zs) (f.joined ∙ ap (λ b. option_to_list f.charset ++ b) f.is_body.joined);
-    head_is = head;
+    head_is = code_bom z.code head;
     charset_is = f.charset_is;
     groups_are = f.is_body.groups_are;
     tail_is = f.is_body.tail_is;
@@ -272,9 +274,9 @@ begins_as Bom z e = ap (λ c. bytes_eq c (codes "RTY")) (code_bom z.code e)
 begins_as Cse z e = ap (λ c. bytes_eq c (codes "RTY")) (code_cse z.code e)
 begins_as Rty z e = ap (λ c. bytes_eq c (codes "RTY")) (code_rty z.code e)
 begins_as Eom z e = ap (λ c. bytes_eq c (codes "RTY")) (code_eom z.code e)
-begins_as Next z e = (code_inner z.code (ap is_inner e)).2
-begins_as Remark z e = (code_inner z.code (ap is_inner e)).2
-begins_as Other z e = (code_inner z.code (ap is_inner e)).2
+begins_as Next z e = (code_inner z.code (ap is_inner_kind e)).2
+begins_as Remark z e = (code_inner z.code (ap is_inner_kind e)).2
+begins_as Other z e = (code_inner z.code (ap is_inner_kind e)).2
 
 one_more_group : (z : ZoneData) (zones : List ZoneData) → begins_group z ≡ true → length (groups_of (z ∷ zones)) ≡ length (groups_of zones) + 1
 one_more_group z zones e = rw e (omega arith)

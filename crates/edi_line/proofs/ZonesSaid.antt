@@ -4,7 +4,8 @@ use Rattle.std.specs.List.{flat_map}
 use Rattle.std.proofs.lemmas.Bool.{both_ways}
 use Rattle.std.proofs.lemmas.List.{length_push}
 use Rattle.edi_line.specs.ZoneData.{ZoneData}
-use Rattle.edi_line.specs.LineKinds.{kind_of, is_zone, starts, bears, some_bears}
+use Rattle.edi_line.specs.LineKinds.{is_zone, starts, bears, some_bears}
+use Rattle.edi_line.specs.inner.Kinds.{kind_of, is_zone_kind, is_start_kind}
 use Rattle.edi_line.specs.LineRules.{BreaksAt, IsZonesOf}
 use Rattle.edi_line.specs.Made.{AreMadeFrom}
 use Rattle.edi_line.specs.Spelling.{Reading}
@@ -13,6 +14,7 @@ use Rattle.edi_line.specs.inner.Zones.{part_by, parts_after, readings_of}
 use Rattle.edi_line.proofs.ZonesFound.{continuation, whole_zones, zones_in, AreZonesRead}
 use Rattle.edi_line.specs.declared.order.ZoneKind.{ZoneKind}
 use Rattle.edi_line.specs.declared.order.ZoneKind.TheVariants.{Bom, Cse, Rty, Eom, Other, Next, Remark}
+use Rattle.edi_line.proofs.KindsSaid.{zone_same, starts_same}
 use Rattle.edi_line.proofs.Made.{made_one}
 use Rattle.edi_line.proofs.Readings.{readings_exist, readings_are}
 
@@ -48,13 +50,13 @@ goes_on n (Ok (Some s) ∷ behind) = by (kind_of s.code) refl (goes_on (suc n) b
   where
     by : (k : ZoneKind) → kind_of s.code ≡ k → GoesOn behind (continuation (parts_after (suc n) behind))
         → GoesOn (Ok (Some s) ∷ behind) (continuation (part_by k (suc n) s ∷ parts_after (suc n) behind))
-    by Next e g = goes_through (Ok (Some s)) behind _ (ap starts e) g
-    by Remark e g = stops_at (Ok (Some s)) behind (ap starts e)
-    by Bom e g = stops_at (Ok (Some s)) behind (ap starts e)
-    by Cse e g = stops_at (Ok (Some s)) behind (ap starts e)
-    by Rty e g = stops_at (Ok (Some s)) behind (ap starts e)
-    by Eom e g = stops_at (Ok (Some s)) behind (ap starts e)
-    by Other e g = stops_at (Ok (Some s)) behind (ap starts e)
+    by Next e g = goes_through (Ok (Some s)) behind _ (starts_same s.code ∙ ap is_start_kind e) g
+    by Remark e g = stops_at (Ok (Some s)) behind (starts_same s.code ∙ ap is_start_kind e)
+    by Bom e g = stops_at (Ok (Some s)) behind (starts_same s.code ∙ ap is_start_kind e)
+    by Cse e g = stops_at (Ok (Some s)) behind (starts_same s.code ∙ ap is_start_kind e)
+    by Rty e g = stops_at (Ok (Some s)) behind (starts_same s.code ∙ ap is_start_kind e)
+    by Eom e g = stops_at (Ok (Some s)) behind (starts_same s.code ∙ ap is_start_kind e)
+    by Other e g = stops_at (Ok (Some s)) behind (starts_same s.code ∙ ap is_start_kind e)
 
 pub or_first : (a b : Bool) → (a || b) ≡ false → a ≡ false
 or_first true b e = e
@@ -112,7 +114,7 @@ zones_from front (Ok (Some s) ∷ lines) = by (kind_of s.code) refl (next_zones 
     behind : List ZoneData
     behind = whole_zones (parts_after (suc n) lines)
 
-    begun : is_zone (kind_of s.code) ≡ true → ZonesFrom (front ++ Ok (Some s) ∷ []) lines behind
+    begun : is_zone s.code ≡ true → ZonesFrom (front ++ Ok (Some s) ∷ []) lines behind
         → ZonesFrom front (Ok (Some s) ∷ lines) (zone_at (suc n) s (continuation (parts_after (suc n) lines)) ∷ behind)
     begun zone h = inl (
       zone_at (suc n) s (continuation (parts_after (suc n) lines)),
@@ -129,18 +131,18 @@ zones_from front (Ok (Some s) ∷ lines) = by (kind_of s.code) refl (next_zones 
       h,
     )
 
-    none : is_zone (kind_of s.code) ≡ false → ZonesFrom (front ++ Ok (Some s) ∷ []) lines behind → ZonesFrom front (Ok (Some s) ∷ lines) behind
+    none : is_zone s.code ≡ false → ZonesFrom (front ++ Ok (Some s) ∷ []) lines behind → ZonesFrom front (Ok (Some s) ∷ lines) behind
     none other h = inr (λ yes. both_ways _ other yes, h)
 
     by : (k : ZoneKind) → kind_of s.code ≡ k → ZonesFrom (front ++ Ok (Some s) ∷ []) lines behind
         → ZonesFrom front (Ok (Some s) ∷ lines) (whole_zones (part_by k (suc n) s ∷ parts_after (suc n) lines))
-    by Next e h = none (ap is_zone e) h
-    by Remark e h = none (ap is_zone e) h
-    by Bom e h = begun (ap is_zone e) h
-    by Cse e h = begun (ap is_zone e) h
-    by Rty e h = begun (ap is_zone e) h
-    by Eom e h = begun (ap is_zone e) h
-    by Other e h = begun (ap is_zone e) h
+    by Next e h = none (zone_same s.code ∙ ap is_zone_kind e) h
+    by Remark e h = none (zone_same s.code ∙ ap is_zone_kind e) h
+    by Bom e h = begun (zone_same s.code ∙ ap is_zone_kind e) h
+    by Cse e h = begun (zone_same s.code ∙ ap is_zone_kind e) h
+    by Rty e h = begun (zone_same s.code ∙ ap is_zone_kind e) h
+    by Eom e h = begun (zone_same s.code ∙ ap is_zone_kind e) h
+    by Other e h = begun (zone_same s.code ∙ ap is_zone_kind e) h
 
 pub zones_exist : (lines : List Reading) → IsZonesIn lines (zones_in lines)
 zones_exist lines = zones_from [] lines

@@ -1,6 +1,6 @@
 -- A file that breaks no rule of lines has zones, and no more records than a file may have.
 use Rattle.std.proofs.Common.{◌≡◌, ℕ, ◌+◌, ◌≤◌, Bool, true, false, List, length, refl, sym, inl, inr}
-use Rattle.edi_line.specs.LineKinds.{is_eom, some_bears}
+use Rattle.edi_line.specs.LineKinds.{code_is, some_bears}
 use Rattle.edi_line.specs.LineRules.{BreaksLineRule, IsZonesOf}
 use Rattle.edi_line.specs.Refusal.{IsUnbroken}
 use Rattle.edi_line.specs.ZoneData.{ZoneData}
@@ -16,12 +16,12 @@ module _ (bytes : List ℕ) (unbroken : IsUnbroken (BreaksLineRule bytes)) where
   pub zones_there : IsZonesOf bytes (zones_of bytes)
   zones_there = zones_said bytes (zones_of bytes) (record { readable = λ rule place own broken. unbroken_read bytes unbroken rule place (inl broken); is = refl })
 
-  ends : some_bears is_eom (readings_of bytes) ≡ true
-  ends = go (some_bears is_eom (readings_of bytes)) refl
+  ends : some_bears (code_is "EOM") (readings_of bytes) ≡ true
+  ends = go (some_bears (code_is "EOM") (readings_of bytes)) refl
     where
-      go : (b : Bool) → some_bears is_eom (readings_of bytes) ≡ b → b ≡ true
+      go : (b : Bool) → some_bears (code_is "EOM") (readings_of bytes) ≡ b → b ≡ true
       go true e = refl
-      go false e = absurd (unbroken_read bytes unbroken 106 (length (readings_of bytes) + 1) (inr (record { rule_is = refl; place_is = refl; lacks = e })))
+      go false e = absurd (unbroken_read bytes unbroken 106 (length (readings_of bytes) + 1) (inr (refl, refl, e)))
 
   few : length (groups_of (zones_of bytes)) ≤ 9999999
   few = few_of_all (readings_of bytes) (zones_of bytes) (λ rule place broken. unbroken_read bytes unbroken rule place (inl broken)) ends (sym (closed_zones (parts_after 0 (readings_of bytes))))

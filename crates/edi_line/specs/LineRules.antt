@@ -1,33 +1,28 @@
 -- The rules of lines.
-use Rattle.std.specs.Prelude.{◌≡◌, ℕ, ◌+◌, ◌≤◌, ◌⊎◌, false, ◌&&◌, ◌||◌, not, ◌==◌, List, [], ◌∷◌, ◌++◌, length, Err, count_by}
+use Rattle.std.specs.Prelude.{◌≡◌, ℕ, ◌+◌, ◌≤◌, ◌⊎◌, false, ◌&&◌, ◌||◌, not, ◌==◌, List, ◌∷◌, ◌++◌, length, Err, IsTrue, count_by}
 use Rattle.edi_line.specs.Bytes.{most_records}
 use Rattle.edi_line.specs.ZoneData.{ZoneData}
-use Rattle.edi_line.specs.LineKinds.{is_bom, is_cse, is_rty, is_eom, is_other, is_next, is_zone, starts, bears, some_bears}
-use Rattle.edi_line.specs.Refusal.{Test, test, BreaksTest}
+use Rattle.edi_line.specs.LineKinds.{code_is, is_other, is_zone, starts, bears, some_bears}
 use Rattle.edi_line.specs.Spelling.{Reading, AreReadings}
 use Rattle.edi_line.specs.Zones.{IsZonesIn}
 
--- the rules that a line may break by its place behind these lines
-abbrev pub line_tests : List Reading → Reading → List Test
-line_tests before line =
-    -- NEX with no zone or remark before it
-    test 104 (bears is_next line && not (some_bears starts before))
-    -- the first zone isn't BOM
-    ∷ test 105 (bears is_zone line && (not (bears is_bom line) && not (some_bears is_zone before)))
-    -- a zone after an EOM
-    ∷ test 107 (bears is_zone line && some_bears is_eom before)
-    -- a BOM after a BOM; a CSE after a CSE or an RTY
-    ∷ test 108 ((bears is_bom line && some_bears is_bom before)
-    || (bears is_cse line && (some_bears is_cse before || some_bears is_rty before)))
-    -- a zone other than BOM, CSE, EOM, RTY with no RTY before it
-    ∷ test 109 (bears is_other line && not (some_bears is_rty before))
-    -- the RTY of record 10,000,000
-    ∷ test 110 (bears is_rty line && (count_by (bears is_rty) before == most_records))
-    ∷ []
-
--- A line breaks a rule of its own (101, 102, 103), or one of its place.
+-- A line breaks a rule of its own (101, 102, 103), or one of its place behind these lines.
 abbrev pub BreaksHere : List Reading → Reading → ℕ → Type 0
-BreaksHere before line rule = (line ≡ Err rule) ⊎ BreaksTest (line_tests before line) rule
+BreaksHere before line rule =
+    (line ≡ Err rule)
+    -- 104: NEX with no zone or remark before it
+    ⊎ (((rule ≡ 104) × IsTrue (bears (code_is "NEX") line && not (some_bears starts before)))
+    -- 105: the first zone isn't BOM
+    ⊎ (((rule ≡ 105) × IsTrue (bears is_zone line && (not (bears (code_is "BOM") line) && not (some_bears is_zone before))))
+    -- 107: a zone after an EOM
+    ⊎ (((rule ≡ 107) × IsTrue (bears is_zone line && some_bears (code_is "EOM") before))
+    -- 108: a BOM after a BOM; a CSE after a CSE or an RTY
+    ⊎ (((rule ≡ 108) × IsTrue ((bears (code_is "BOM") line && some_bears (code_is "BOM") before)
+    || (bears (code_is "CSE") line && (some_bears (code_is "CSE") before || some_bears (code_is "RTY") before))))
+    -- 109: a zone other than BOM, CSE, EOM, RTY with no RTY before it
+    ⊎ (((rule ≡ 109) × IsTrue (bears is_other line && not (some_bears (code_is "RTY") before)))
+    -- 110: the RTY of record 10,000,000
+    ⊎ ((rule ≡ 110) × IsTrue (bears (code_is "RTY") line && (count_by (bears (code_is "RTY")) before == most_records))))))))
 
 -- the line with this number breaks the rule
 pub record BreaksAt (lines : List Reading) (rule place : ℕ) : Type 0 where
@@ -39,10 +34,8 @@ pub record BreaksAt (lines : List Reading) (rule place : ℕ) : Type 0 where
   pub breaks : BreaksHere before line rule
 
 -- 106: there is no EOM, which is missed one past the last line
-pub record LacksEnd (lines : List Reading) (rule place : ℕ) : Type 0 where
-  pub rule_is : rule ≡ 106
-  pub place_is : place ≡ length lines + 1
-  pub lacks : some_bears is_eom lines ≡ false
+abbrev pub LacksEnd : List Reading → ℕ → ℕ → Type 0
+LacksEnd lines rule place = (rule ≡ 106) × (place ≡ length lines + 1) × (some_bears (code_is "EOM") lines ≡ false)
 
 -- a line breaks the rule, or EOM is missed
 abbrev pub BreaksIn : List Reading → ℕ → ℕ → Type 0

@@ -3,10 +3,9 @@ use Rattle.std.specs.Prelude.{◌≡◌, ℕ, ◌+◌, Bool, true, false, ◌||�
 use Rattle.std.specs.List.{flat_map, AllByRecursion}
 use Rattle.std.specs.Cow.{IsOwnedSlice}
 use Rattle.edi_line.specs.ZoneData.{ZoneData, has_code, first}
-use Rattle.edi_line.specs.LineKinds.{kind_of, is_inner, is_next, is_zone, starts, bears, some_bears}
+use Rattle.edi_line.specs.LineKinds.{code_is, is_inner, is_zone, starts, bears, some_bears}
 use Rattle.edi_line.specs.Made.{AreMadeFrom}
 use Rattle.edi_line.specs.Spelling.{Spelling, Reading}
-use Rattle.edi_line.specs.declared.order.ZoneKind.TheVariants.{Bom, Cse, Rty, Eom}
 use Rattle.edi_line.specs.declared.zone.Zone.{Zone}
 
 -- ---- the zones of lines
@@ -52,7 +51,7 @@ pub record IsContinued (lines : List Reading) (line : ℕ) : Type 0 where
   pub cut : lines ≡ (front ++ head ∷ between) ++ next ∷ rest
   pub numbered : line ≡ length front + 1
   pub nothing_else : some_bears starts between ≡ false
-  pub continues : bears is_next next ≡ true
+  pub continues : bears (code_is "NEX") next ≡ true
 
 -- the value is borrowed from the file, unless a NEX line continues it
 abbrev pub IsBorrowedUnlessContinued : List Reading → Zone → Type 0
@@ -65,18 +64,18 @@ pub record IsGroup (group : List ZoneData) : Type 0 where
   pub first : ZoneData
   pub rest : List ZoneData
   pub joined : group ≡ first ∷ rest
-  pub leads : kind_of first.code ≡ Rty
-  pub others : AllByRecursion (λ z. is_inner (kind_of z.code) ≡ true) rest
+  pub leads : first.code ≡ codes "RTY"
+  pub others : AllByRecursion (λ z. is_inner z.code ≡ true) rest
 
 -- BOM, then CSE or nothing, then groups, then EOM
 pub record IsFileOf (zones : List ZoneData) (charset : Option ZoneData) (groups : List (List ZoneData)) : Type 0 where
   pub head : ZoneData
   pub tail : ZoneData
   pub joined : zones ≡ head ∷ (option_to_list charset ++ (flat_map (λ g. g) groups ++ tail ∷ []))
-  pub head_is : kind_of head.code ≡ Bom
-  pub charset_is : IfSome charset (λ z. kind_of z.code ≡ Cse)
+  pub head_is : head.code ≡ codes "BOM"
+  pub charset_is : IfSome charset (λ z. z.code ≡ codes "CSE")
   pub groups_are : AllByRecursion IsGroup groups
-  pub tail_is : kind_of tail.code ≡ Eom
+  pub tail_is : tail.code ≡ codes "EOM"
 
 -- the zones have the shape of a file
 abbrev pub HasShape : List ZoneData → Type 0

@@ -2,6 +2,7 @@
 pub mod Number
 pub mod Spelling
 pub mod Lines
+pub mod Kinds
 pub mod Zones
 pub mod ZoneLists
 pub mod Held

@@ -3,7 +3,7 @@
 ghost use Rattle.std.specs.Prelude.{◌≡◌, ◌+◌, ◌<◌, ◌^◌, ◌&&◌, ◌||◌, ◌==◌, not, [], ◌∷◌, ◌++◌, if◌then◌else◌, IfOk, OnOk};
 ghost use Rattle.edi_line.specs.AllBroken.{AreAllBroken};
 ghost use Rattle.edi_line.specs.Bytes.{most_records};
-ghost use Rattle.edi_line.specs.LineKinds.{is_bom, is_cse, is_rty, is_other, is_next, is_zone as zone_test};
+ghost use Rattle.edi_line.specs.inner.Kinds.{is_bom, is_cse, is_rty, is_other_kind, is_next, is_zone_kind};
 ghost use Rattle.edi_line.specs.LineRules.{BreaksLineRule};
 ghost use Rattle.edi_line.specs.inner.AllBroken.{with_broken, TakesLine, HoldsBroken};
 ghost use Rattle.edi_line.specs.inner.Held.{kind_tests, noted_kind};
@@ -39,7 +39,7 @@ pub fn push_if_broken(
 
 /// Whether a line of this kind is a zone: NEX lines and remarks are none.
 fn is_zone(kind: ZoneKind) -> bool
-    ensures { result ≡ zone_test kind }
+    ensures { result ≡ is_zone_kind kind }
 {
     !matches!(kind, ZoneKind::Next | ZoneKind::Remark)
 }
@@ -57,7 +57,7 @@ impl Order {
 
     /// Whether rule 105 is broken: the first zone isn't BOM.
     fn begins_otherwise(&self, kind: ZoneKind) -> bool
-        ensures { result ≡ (zone_test kind && (not (is_bom kind) && not self.now.begun)) }
+        ensures { result ≡ (is_zone_kind kind && (not (is_bom kind) && not self.now.begun)) }
     {
         match kind {
             ZoneKind::Bom => false,
@@ -67,7 +67,7 @@ impl Order {
 
     /// Whether rule 107 is broken: a zone after an EOM.
     fn has_ended(&self, kind: ZoneKind) -> bool
-        ensures { result ≡ (zone_test kind && self.now.eom) }
+        ensures { result ≡ (is_zone_kind kind && self.now.eom) }
     {
         is_zone(kind) && self.eom
     }
@@ -85,7 +85,7 @@ impl Order {
 
     /// Whether rule 109 is broken: a zone of a record with no RTY before it.
     fn belongs_to_nothing(&self, kind: ZoneKind) -> bool
-        ensures { result ≡ (is_other kind && not self.now.rty) }
+        ensures { result ≡ (is_other_kind kind && not self.now.rty) }
     {
         match kind {
             ZoneKind::Other => !self.rty,

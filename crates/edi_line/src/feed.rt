@@ -191,7 +191,7 @@ fn take_piece(
     ensures ok { OnOk result (TakesFront reader.old (pending.old.items ++ piece.now) pending.new.items reader.new) }
     ensures broken { IfErr result (IfBroken (RefusesIn reader.old (pending.old.items ++ piece.now))) }
 {
-    let Some((line, after)) = lines::first_ended(piece) else {
+    let Some((line, after)) = lines::first_ended_line(piece) else {
         pending.extend_from_slice(piece)?;
         return Ok(());
     };
@@ -236,7 +236,7 @@ fn take_ended<'b>(
     ensures broken { IfErr result (IfBroken (RefusesIn reader.old bytes.now)) }
 {
     let mut rest = bytes;
-    while let Some((line, after)) = lines::first_ended(rest) {
+    while let Some((line, after)) = lines::first_ended_line(rest) {
         reader.take_copied(alloc, lines::content(line))?;
         rest = after;
     }

@@ -81,7 +81,7 @@ impl Pieces {
             return Err(AllocError);
         }
         let len = len + more;
-        let Some((front, behind)) = cut(bytes) else {
+        let Some((front, behind)) = split_behind_records(bytes) else {
             last.extend_from_slice(bytes)?;
             return Ok(Pieces { ended, last, len });
         };
@@ -139,7 +139,7 @@ fn hold(bytes: &[u8])
 /// The bytes in front of the place behind the first line of the last record that begins in them, and those behind it.
 ///
 /// A reader that is there holds one zone alone: the one that this line begins.
-fn cut(bytes: &[u8]) -> Option<(&[u8], &[u8])>
+fn split_behind_records(bytes: &[u8]) -> Option<(&[u8], &[u8])>
     ensures joined { IfSome result (λ cut. bytes.now ≡ cut.0.now ++ cut.1.now) }
     ensures ended { IfSome result (λ cut. EndsInFeed cut.0.now) }
 {

@@ -21,7 +21,7 @@ pub fn first_line(bytes: &[u8]) -> (&[u8], &[u8])
 }
 
 /// The first line that has ended, with its line feed, and the bytes behind it, if a line has.
-pub(crate) fn first_ended(bytes: &[u8]) -> Option<(&[u8], &[u8])>
+pub(crate) fn first_ended_line(bytes: &[u8]) -> Option<(&[u8], &[u8])>
     ensures none { IsNone result → HasNoFeed bytes.now }
     ensures joined { IfSome result (λ cut. bytes.now ≡ cut.0.now ++ cut.1.now) }
     ensures ended { IfSome result (λ cut. IsEnded cut.0.now) }

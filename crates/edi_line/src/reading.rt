@@ -5,7 +5,7 @@ ghost use Rattle.edi_line.specs.Bytes.{most_records};
 ghost use Rattle.edi_line.specs.ZoneData.{ZoneData, entry, entries};
 ghost use Rattle.edi_line.specs.Zones.{HasShape, IsFileOf, IsBorrowedUnlessContinued, IsZonesIn, groups_of, charset_of};
 ghost use Rattle.edi_line.specs.inner.Zones.{part_by};
-ghost use Rattle.edi_line.specs.LineKinds.{kind_of as kind_in};
+ghost use Rattle.edi_line.specs.inner.Kinds.{kind_of as kind_in};
 ghost use Rattle.edi_line.specs.LineRules.{BreaksLineRule, IsZonesOf};
 ghost use Rattle.edi_line.specs.Refusal.{IsUnbroken, IsLineRefusal, IfBroken};
 ghost use Rattle.std.specs.List.{AllByRecursion};

@@ -78,7 +78,7 @@ impl Text {
             return Ok(Text::short(alloc, bytes));
         }
         let bytes = if bytes.len() <= MIDDLING {
-            middling(alloc, bytes)?
+            text_of_middle_length(alloc, bytes)?
         } else {
             Bytes::Long(Arc::new(alloc, Vec::from_slice(alloc, bytes)?)?)
         };
@@ -129,7 +129,7 @@ fn short(text: &[u8]) -> Bytes
 }
 
 /// The bytes in one piece of memory.
-fn middling(alloc: Global, text: &[u8]) -> Result<Bytes, AllocError>
+fn text_of_middle_length(alloc: Global, text: &[u8]) -> Result<Bytes, AllocError>
     requires long { 14 < length text.now }
     requires short { length text.now ≤ 32 }
     ensures value { IfOk result (λ bytes. bytes_in bytes ≡ text.now) }

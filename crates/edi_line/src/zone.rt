@@ -51,7 +51,7 @@ impl<'a> Zone<'a> {
     }
 
     /// A copy, which owns its value.
-    pub fn copied(&self, alloc: Global) -> Result<Zone<'static>, AllocError>
+    pub fn copy(&self, alloc: Global) -> Result<Zone<'static>, AllocError>
         ensures { IfOk result (λ copy. entry copy ≡ entry self.now) }
     {
         Ok(Zone {

@@ -8,7 +8,8 @@ use Rattle.edi_line.specs.LineRules.{IsZonesOf, BreaksLineRule, BreaksAt}
 use Rattle.edi_line.specs.Zones.{groups_of}
 use Rattle.edi_line.specs.inner.Zones.{Part, part_by, parts_after, readings_of}
 use Rattle.edi_line.proofs.ZonesFound.{whole_zones, zones_of}
-use Rattle.edi_line.specs.LineKinds.{kind_of, is_rty, bears}
+use Rattle.edi_line.specs.LineKinds.{code_is, bears}
+use Rattle.edi_line.specs.inner.Kinds.{kind_of}
 use Rattle.edi_line.specs.Refusal.{IsUnbroken}
 use Rattle.edi_line.proofs.Readings.{unbroken_read}
 use Rattle.edi_line.proofs.ZonesSaid.{zones_read}
@@ -33,7 +34,7 @@ coded code s = record { code = code; nature = s.nature; format = s.format; value
 -- a line opens a record exactly if its code is RTY
 abbrev Opens : ℕ → Spelling → List Part → List ℕ → Type 0
 Opens n s parts code =
-    length (groups_of (whole_zones (part_by (kind_of code) n (coded code s) ∷ parts))) ≡ cond (is_rty (kind_of code)) 1 0 + length (groups_of (whole_zones parts))
+    length (groups_of (whole_zones (part_by (kind_of code) n (coded code s) ∷ parts))) ≡ cond (code_is "RTY" code) 1 0 + length (groups_of (whole_zones parts))
 
 none_added : (m : ℕ) → m ≡ 0 + m
 none_added m = omega arith
@@ -48,13 +49,13 @@ opens_one n s parts code =
     by_code code (codes "REM") (Opens n s parts) (omega arith) (λ rem.
     rw (bom, cse, rty, eom, nex, rem) (rw rty (none_added (length (groups_of (whole_zones parts)))))))))))
 
-groups_counted : (n : ℕ) (lines : List Reading) → length (groups_of (whole_zones (parts_after n lines))) ≡ count_by (bears is_rty) lines
+groups_counted : (n : ℕ) (lines : List Reading) → length (groups_of (whole_zones (parts_after n lines))) ≡ count_by (bears (code_is "RTY")) lines
 groups_counted n [] = refl
-groups_counted n (Ok None ∷ lines) = omega (arith, groups_counted (suc n) lines, count-cons (bears is_rty) (Ok None) lines)
-groups_counted n (Err rule ∷ lines) = omega (arith, groups_counted (suc n) lines, count-cons (bears is_rty) (Err rule) lines)
+groups_counted n (Ok None ∷ lines) = omega (arith, groups_counted (suc n) lines, count-cons (bears (code_is "RTY")) (Ok None) lines)
+groups_counted n (Err rule ∷ lines) = omega (arith, groups_counted (suc n) lines, count-cons (bears (code_is "RTY")) (Err rule) lines)
 groups_counted n (Ok (Some s) ∷ lines) =
     opens_one (suc n) s (parts_after (suc n) lines) s.code
-    ∙ (ap (λ m. cond (is_rty (kind_of s.code)) 1 0 + m) (groups_counted (suc n) lines) ∙ sym (count-cons (bears is_rty) (Ok (Some s)) lines))
+    ∙ (ap (λ m. cond (code_is "RTY" s.code) 1 0 + m) (groups_counted (suc n) lines) ∙ sym (count-cons (bears (code_is "RTY")) (Ok (Some s)) lines))
 
 -- the one after so many that pass
 numbered : {X : Type 0} (p : X → Bool) (n : ℕ) (xs : List X) → n < count_by p xs → (before : List X) × (x : X) × (after : List X) × (xs ≡ before ++ x ∷ after) × (p x ≡ true) × (count_by p before ≡ n)
@@ -74,16 +75,16 @@ numbered {X} p n (x ∷ xs) below = go (p x) refl n below (λ m l. numbered p m 
         let found = more n (omega (arith, total, below)) in
         (x ∷ found.0, found.1, found.2, ap (λ t. x ∷ t) found.3, found.4, count-cons p x found.0 ∙ (ap (λ b. cond b 1 0 + count_by p found.0) e ∙ omega (arith, found.5)))
 
-few_records : (lines : List Reading) → ((place : ℕ) → ¬ (BreaksAt lines 110 place)) → count_by (bears is_rty) lines ≤ 9999999
-few_records lines sound = go (Rattle.std.proofs.lemmas.Bool.cases_order (count_by (bears is_rty) lines) 9999999)
+few_records : (lines : List Reading) → ((place : ℕ) → ¬ (BreaksAt lines 110 place)) → count_by (bears (code_is "RTY")) lines ≤ 9999999
+few_records lines sound = go (Rattle.std.proofs.lemmas.Bool.cases_order (count_by (bears (code_is "RTY")) lines) 9999999)
   where
-    too_many : 9999999 < count_by (bears is_rty) lines → ⊥
+    too_many : 9999999 < count_by (bears (code_is "RTY")) lines → ⊥
     too_many many =
-        let found = numbered (bears is_rty) 9999999 lines many in
-        let last : (bears is_rty found.1 && (count_by (bears is_rty) found.0 == 9999999)) ≡ true = rw (found.4, eq-eqb _ _ found.5) refl in
-        sound (length found.0 + 1) (record { before = found.0; line = found.1; after = found.2; cut = found.3; place_is = refl; breaks = inr (inr (inr (inr (inr (inr (inl (refl, last))))))) })
+        let found = numbered (bears (code_is "RTY")) 9999999 lines many in
+        let last : (bears (code_is "RTY") found.1 && (count_by (bears (code_is "RTY")) found.0 == 9999999)) ≡ true = rw (found.4, eq-eqb _ _ found.5) refl in
+        sound (length found.0 + 1) (record { before = found.0; line = found.1; after = found.2; cut = found.3; place_is = refl; breaks = inr (inr (inr (inr (inr (inr (refl, last)))))) })
 
-    go : (count_by (bears is_rty) lines ≡ 9999999) ⊎ ((count_by (bears is_rty) lines < 9999999) ⊎ (9999999 < count_by (bears is_rty) lines)) → count_by (bears is_rty) lines ≤ 9999999
+    go : (count_by (bears (code_is "RTY")) lines ≡ 9999999) ⊎ ((count_by (bears (code_is "RTY")) lines < 9999999) ⊎ (9999999 < count_by (bears (code_is "RTY")) lines)) → count_by (bears (code_is "RTY")) lines ≤ 9999999
     go (inl e) = omega (arith, e)
     go (inr (inl l)) = omega (arith, l)
     go (inr (inr l)) = absurd (too_many l)

@@ -10,7 +10,7 @@ use Rattle.std.proofs.lemmas.Fmt.{decimal_is_IsNumeral}
 use Rattle.edi_line.specs.ZoneData.{ZoneData}
 use Rattle.edi_line.specs.Number.{IsNumberText, plain_text, signed_text, size_of, MOST}
 use Rattle.edi_line.specs.inner.Number.{number}
-use Rattle.edi_line.specs.LineKinds.{kind_of, is_zone}
+use Rattle.edi_line.specs.LineKinds.{is_zone}
 use Rattle.edi_line.specs.Printing.{zone_text, IsOneLine, IsPrintable}
 use Rattle.edi_line.proofs.Numbers.{number_in_range}
 use Rattle.edi_line.proofs.NumberRead.{number_is, number_lacks}
@@ -132,10 +132,10 @@ attribute_printable s letters a h =
     (record { code = refl; zone = refl; nature = refl; format = refl; one_line = class_line a.atp h.class }, set_printable a.tex h.set)
     (record { code = refl; zone = refl; nature = refl; format = letters a.atp; one_line = own_line (s.is_number a.atp) a.atv h.value }, tt)
 
-free_zone : (kind : Kind) (e : Extra) → IsExtra kind e → is_zone (kind_of e.code) ≡ true
+free_zone : (kind : Kind) (e : Extra) → IsExtra kind e → is_zone e.code ≡ true
 free_zone kind e h =
     let f = free_apart e.code h.free in
-    rw (f.1.1.0, f.1.1.1.0, (unknown kind e h).0, f.1.1.1.1.0, f.0, f.1.0) refl
+    rw (f.0, f.1.0) refl
 
 extra_printable : (kind : Kind) (e : Extra) → IsExtra kind e → IsLineExtra e → IsPrintable (extra_zone e)
 extra_printable kind e x h = record { code = h.code; zone = free_zone kind e x; nature = h.nature; format = h.format; one_line = value_line e.value h.value }

@@ -15,12 +15,14 @@ use Rattle.edi_line.specs.inner.Spelling.{reading_of, is_space, is_digit, code_o
 use Rattle.edi_line.specs.Zones.{begins_group, ends_group, before_end, groups_of}
 use Rattle.edi_line.specs.inner.Zones.{readings_of, Part, part_by, part_of, parts_after}
 use Rattle.edi_line.proofs.ZonesFound.{continuation, whole_zones, zones_of}
-use Rattle.edi_line.specs.LineKinds.{kind_of, is_bom, is_cse, is_rty, is_zone, bears, some_bears}
+use Rattle.edi_line.specs.LineKinds.{code_is, is_zone, bears, some_bears}
+use Rattle.edi_line.specs.inner.Kinds.{kind_of}
 use Rattle.edi_line.specs.inner.Zones.Part.{Blank, Continues, IsRemark, Begins}
 use Rattle.edi_line.specs.LineRules.{BreaksAt, BreaksLineRule}
 use Rattle.edi_line.specs.Refusal.{IsUnbroken}
 use Rattle.edi_line.specs.Printing.{is_code, IsOneLine, IsPrintable}
 use Rattle.edi_line.proofs.Cut.{lines_exist}
+use Rattle.edi_line.proofs.KindsSaid.{IsOther, by_code}
 use Rattle.edi_line.proofs.Readings.{unbroken_read}
 use Rattle.edi_record.specs.RecordLayout.{is_free}
 
@@ -134,32 +136,6 @@ read_well content h =
 
 -- ---- codes
 
--- none of the codes that part a file
-record IsOther (code : List ℕ) : Type 0 where
-  bom : bytes_eq code (codes "BOM") ≡ false
-  cse : bytes_eq code (codes "CSE") ≡ false
-  rty : bytes_eq code (codes "RTY") ≡ false
-  eom : bytes_eq code (codes "EOM") ≡ false
-  nex : bytes_eq code (codes "NEX") ≡ false
-  rem : bytes_eq code (codes "REM") ≡ false
-
-known_code : (P : List ℕ → Type 0) (code known : List ℕ) → bytes_eq code known ≡ true → P known → P code
-known_code P code known e h = subst P (sym ((bytes_eq-Decides code known).0 e)) h
-
--- what holds of the six codes and of all others holds of each
-by_code : (P : List ℕ → Type 0) → P (codes "BOM") → P (codes "CSE") → P (codes "RTY") → P (codes "EOM") → P (codes "NEX") → P (codes "REM") → ((code : List ℕ) → IsOther code → P code) → (code : List ℕ) → P code
-by_code P bom cse rty eom nex rem other code =
-    go (bytes_eq code (codes "BOM")) (bytes_eq code (codes "CSE")) (bytes_eq code (codes "RTY")) (bytes_eq code (codes "EOM")) (bytes_eq code (codes "NEX")) (bytes_eq code (codes "REM")) refl refl refl refl refl refl
-  where
-    go : (a b c d e f : Bool) → bytes_eq code (codes "BOM") ≡ a → bytes_eq code (codes "CSE") ≡ b → bytes_eq code (codes "RTY") ≡ c → bytes_eq code (codes "EOM") ≡ d → bytes_eq code (codes "NEX") ≡ e → bytes_eq code (codes "REM") ≡ f → P code
-    go true b c d e f p q r s t u = known_code P code (codes "BOM") p bom
-    go false true c d e f p q r s t u = known_code P code (codes "CSE") q cse
-    go false false true d e f p q r s t u = known_code P code (codes "RTY") r rty
-    go false false false true e f p q r s t u = known_code P code (codes "EOM") s eom
-    go false false false false true f p q r s t u = known_code P code (codes "NEX") t nex
-    go false false false false false true p q r s t u = known_code P code (codes "REM") u rem
-    go false false false false false false p q r s t u = other code (record { bom = p; cse = q; rty = r; eom = s; nex = t; rem = u })
-
 abbrev spelling_by : List ℕ → Spelling → Spelling
 spelling_by code s = record { code = code; nature = s.nature; format = s.format; value = s.value }
 
@@ -169,7 +145,7 @@ abbrev IsWell : Part → Type 0
 IsWell Blank = Unit {0}
 IsWell (Continues value) = NoFeed value
 IsWell IsRemark = Unit {0}
-IsWell (Begins z) = IsSpelled (let s : Spelling = record { code = z.code; nature = z.nature; format = z.format; value = z.value } in s) × (is_zone (kind_of z.code) ≡ true)
+IsWell (Begins z) = IsSpelled (let s : Spelling = record { code = z.code; nature = z.nature; format = z.format; value = z.value } in s) × (is_zone z.code ≡ true)
 
 part_well : (line : ℕ) (reading : Reading) → IsReadWell reading → IsWell (part_of line reading)
 part_well line (Ok None) h = tt
@@ -179,7 +155,7 @@ part_well line (Ok (Some s)) h =
     (λ code o. other code o) s.code h
   where
     other : (code : List ℕ) → IsOther code → IsSpelled (spelling_by code s) → IsWell (part_by (kind_of code) line (spelling_by code s))
-    other code o k = rw (o.bom, o.cse, o.rty, o.eom, o.nex, o.rem) (k, rw (o.bom, o.cse, o.rty, o.eom, o.nex, o.rem) refl)
+    other code o k = rw (o.bom, o.cse, o.rty, o.eom, o.nex, o.rem) (k, rw (o.nex, o.rem) refl)
 
 parts_well : (n : ℕ) (contents : List (List ℕ)) → AllByRecursion NoFeed contents → AllByRecursion IsWell (parts_after n (map reading_of contents))
 parts_well n [] h = tt
@@ -250,24 +226,24 @@ few_zones_of bytes =
 
 -- what of the rules of lines is needed, where a zone, a BOM and an RTY came before the line or not
 record Keeps (zone bom rty : Bool) (line : Reading) : Type 0 where
-  first : (bears is_zone line && (not (bears is_bom line) && not zone)) ≡ false
-  one_bom : (bears is_bom line && bom) ≡ false
-  no_cse : (bears is_cse line && rty) ≡ false
+  first : (bears is_zone line && (not (bears (code_is "BOM") line) && not zone)) ≡ false
+  one_bom : (bears (code_is "BOM") line && bom) ≡ false
+  no_cse : (bears (code_is "CSE") line && rty) ≡ false
 
 abbrev Runs : Bool → Bool → Bool → List Reading → Type 0
 Runs zone bom rty [] = Unit {0}
-Runs zone bom rty (line ∷ lines) = Keeps zone bom rty line × Runs (zone || bears is_zone line) (bom || bears is_bom line) (rty || bears is_rty line) lines
+Runs zone bom rty (line ∷ lines) = Keeps zone bom rty line × Runs (zone || bears is_zone line) (bom || bears (code_is "BOM") line) (rty || bears (code_is "RTY") line) lines
 
 abbrev IsSound : List Reading → Type 0
 IsSound lines = (rule place : ℕ) → ¬ (BreaksAt lines rule place)
 
-keeps : (done : List Reading) (line : Reading) (lines : List Reading) → IsSound (done ++ line ∷ lines) → Keeps (some_bears is_zone done) (some_bears is_bom done) (some_bears is_rty done) line
+keeps : (done : List Reading) (line : Reading) (lines : List Reading) → IsSound (done ++ line ∷ lines) → Keeps (some_bears is_zone done) (some_bears (code_is "BOM") done) (some_bears (code_is "RTY") done) line
 keeps done line lines sound = record {
   first = false_from_ne_true _ (λ e. sound 105 (length done + 1) (record { before = done; line = line; after = lines; cut = refl; place_is = refl; breaks = inr (inr (inl (refl, e))) }));
-  one_bom = false_from_ne_true _ (λ e. sound 108 (length done + 1) (record { before = done; line = line; after = lines; cut = refl; place_is = refl; breaks = inr (inr (inr (inr (inl (refl, or_left (bears is_bom line && some_bears is_bom done) (bears is_cse line && (some_bears is_cse done || some_bears is_rty done)) e))))) }));
+  one_bom = false_from_ne_true _ (λ e. sound 108 (length done + 1) (record { before = done; line = line; after = lines; cut = refl; place_is = refl; breaks = inr (inr (inr (inr (inl (refl, or_left (bears (code_is "BOM") line && some_bears (code_is "BOM") done) (bears (code_is "CSE") line && (some_bears (code_is "CSE") done || some_bears (code_is "RTY") done)) e))))) }));
   no_cse = false_from_ne_true _ (λ e.
-      let p = and_parts (bears is_cse line) (some_bears is_rty done) e in
-      sound 108 (length done + 1) (record { before = done; line = line; after = lines; cut = refl; place_is = refl; breaks = inr (inr (inr (inr (inl (refl, or_right (bears is_bom line && some_bears is_bom done) (bears is_cse line && (some_bears is_cse done || some_bears is_rty done)) (and_from (bears is_cse line) (some_bears is_cse done || some_bears is_rty done) p.0 (or_right (some_bears is_cse done) (some_bears is_rty done) p.1))))))) }));
+      let p = and_parts (bears (code_is "CSE") line) (some_bears (code_is "RTY") done) e in
+      sound 108 (length done + 1) (record { before = done; line = line; after = lines; cut = refl; place_is = refl; breaks = inr (inr (inr (inr (inl (refl, or_right (bears (code_is "BOM") line && some_bears (code_is "BOM") done) (bears (code_is "CSE") line && (some_bears (code_is "CSE") done || some_bears (code_is "RTY") done)) (and_from (bears (code_is "CSE") line) (some_bears (code_is "CSE") done || some_bears (code_is "RTY") done) p.0 (or_right (some_bears (code_is "CSE") done) (some_bears (code_is "RTY") done) p.1))))))) }));
 }
 
 or_none : (b : Bool) → (b || false) ≡ b
@@ -278,14 +254,14 @@ or_none false = refl
 borne : (p : Reading → Bool) (done : List Reading) (line : Reading) → list_any p (done ++ line ∷ []) ≡ (list_any p done || p line)
 borne p done line = list_any-append p done (line ∷ []) ∙ ap (λ b. list_any p done || b) (or_none (p line))
 
-runs_from : (done lines : List Reading) → IsSound (done ++ lines) → Runs (some_bears is_zone done) (some_bears is_bom done) (some_bears is_rty done) lines
+runs_from : (done lines : List Reading) → IsSound (done ++ lines) → Runs (some_bears is_zone done) (some_bears (code_is "BOM") done) (some_bears (code_is "RTY") done) lines
 runs_from done [] sound = tt
 runs_from done (line ∷ lines) sound =
     let more = runs_from (done ++ line ∷ []) lines (subst IsSound (sym (append_assoc done (line ∷ []) lines)) sound) in (
       keeps done line lines sound,
-      subst (λ b. Runs b (some_bears is_bom done || bears is_bom line) (some_bears is_rty done || bears is_rty line) lines) (borne (bears is_zone) done line)
-          (subst (λ b. Runs (some_bears is_zone (done ++ line ∷ [])) b (some_bears is_rty done || bears is_rty line) lines) (borne (bears is_bom) done line)
-          (subst (λ b. Runs (some_bears is_zone (done ++ line ∷ [])) (some_bears is_bom (done ++ line ∷ [])) b lines) (borne (bears is_rty) done line) more)),
+      subst (λ b. Runs b (some_bears (code_is "BOM") done || bears (code_is "BOM") line) (some_bears (code_is "RTY") done || bears (code_is "RTY") line) lines) (borne (bears is_zone) done line)
+          (subst (λ b. Runs (some_bears is_zone (done ++ line ∷ [])) b (some_bears (code_is "RTY") done || bears (code_is "RTY") line) lines) (borne (bears (code_is "BOM")) done line)
+          (subst (λ b. Runs (some_bears is_zone (done ++ line ∷ [])) (some_bears (code_is "BOM") (done ++ line ∷ [])) b lines) (borne (bears (code_is "RTY")) done line) more)),
     )
 
 abbrev AreFree : List ZoneData → Type 0
@@ -324,9 +300,9 @@ free_before n (Ok None ∷ lines) r = free_before (suc n) lines r.1
 free_before n (Err rule ∷ lines) r = free_before (suc n) lines r.1
 free_before n (Ok (Some s) ∷ lines) r = here (free_before (suc n) lines) s.code r.1
   where
-    here : (Runs true true false lines → AllByRecursion AreFree (groups_of (zones_after (suc n) lines))) → (code : List ℕ) → Runs true true (is_rty (kind_of code)) lines → AllByRecursion AreFree (groups_of (with_line n s lines code))
+    here : (Runs true true false lines → AllByRecursion AreFree (groups_of (zones_after (suc n) lines))) → (code : List ℕ) → Runs true true (code_is "RTY" code) lines → AllByRecursion AreFree (groups_of (with_line n s lines code))
     here more =
-        by_code (λ code. Runs true true (is_rty (kind_of code)) lines → AllByRecursion AreFree (groups_of (with_line n s lines code))) more more
+        by_code (λ code. Runs true true (code_is "RTY" code) lines → AllByRecursion AreFree (groups_of (with_line n s lines code))) more more
         (λ q. let inner = free_in (suc n) lines q in ((refl, inner.0), inner.1)) more more more
         (λ code o. rw (o.bom, o.cse, o.rty, o.eom, o.nex, o.rem) (rw o.rty more))
 
@@ -338,14 +314,14 @@ free_front n (Err rule ∷ lines) r = free_front (suc n) lines r.1
 free_front n (Ok (Some s) ∷ lines) r = here (free_front (suc n) lines) s.code r.0 r.1
   where
     here : (Runs false false false lines → AllByRecursion AreFree (groups_of (zones_after (suc n) lines))) → (code : List ℕ) → Keeps false false false (line_by s code)
-        → Runs (is_zone (kind_of code)) (is_bom (kind_of code)) (is_rty (kind_of code)) lines → AllByRecursion AreFree (groups_of (with_line n s lines code))
+        → Runs (is_zone code) (code_is "BOM" code) (code_is "RTY" code) lines → AllByRecursion AreFree (groups_of (with_line n s lines code))
     here more =
-        by_code (λ code. Keeps false false false (line_by s code) → Runs (is_zone (kind_of code)) (is_bom (kind_of code)) (is_rty (kind_of code)) lines → AllByRecursion AreFree (groups_of (with_line n s lines code)))
+        by_code (λ code. Keeps false false false (line_by s code) → Runs (is_zone code) (code_is "BOM" code) (code_is "RTY" code) lines → AllByRecursion AreFree (groups_of (with_line n s lines code)))
         (λ k q. free_before (suc n) lines q) (λ k. let e = k.first in absurd cc) (λ k. let e = k.first in absurd cc) (λ k. let e = k.first in absurd cc) (λ k q. more q) (λ k q. more q)
         (λ code o k. absurd (no_first code o k))
       where
         no_first : (code : List ℕ) → IsOther code → Keeps false false false (line_by s code) → ⊥
-        no_first code o k = let e : true ≡ false = rw (o.bom, o.cse, o.rty, o.eom, o.nex, o.rem) at k.first in cc
+        no_first code o k = let e : true ≡ false = rw (o.bom, o.nex, o.rem) at k.first in cc
 
 -- ---- the zones of a record
 

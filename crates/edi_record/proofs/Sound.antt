@@ -8,7 +8,7 @@ use Rattle.edi_line.specs.Refusal.{IsUnbroken}
 use Rattle.edi_line.specs.inner.Refusal.{first_broken}
 use Rattle.edi_line.specs.Zones.{IsGroup, IsFileOf, groups_of}
 use Rattle.edi_line.proofs.ZonesFound.{zones_of}
-use Rattle.edi_line.specs.LineKinds.{kind_of, is_inner}
+use Rattle.edi_line.specs.LineKinds.{is_inner}
 use Rattle.edi_line.specs.Printing.{zone_text, line_numbered, IsOneLine}
 use Rattle.edi_line.proofs.FirstBroken.{none_broken}
 use Rattle.edi_line.proofs.Printed.{printed_again}
@@ -34,7 +34,7 @@ use Rattle.edi_record.proofs.Unnumbered.{bare, bare_tests, same_groups}
 -- ---- the shape of a file
 
 abbrev IsInner : ZoneData → Type 0
-IsInner z = is_inner (kind_of z.code) ≡ true
+IsInner z = is_inner z.code ≡ true
 
 inner_body : HoldsInBody IsInner
 inner_body = record { ptc = λ _. refl; ftc = λ _. refl; cor = λ _. refl; ftp = λ _. refl; sns = λ _. refl }
@@ -42,8 +42,8 @@ inner_body = record { ptc = λ _. refl; ftc = λ _. refl; cor = λ _. refl; ftp 
 inner_behind : HoldsBehind IsInner
 inner_behind = record { atc = λ _. refl; atp = λ _. refl; tex = λ _. refl; atv = λ _ _. refl }
 
-inner_code : (code : List ℕ) → AllByRecursion (λ known. bytes_eq code known ≡ false) (codes "NEX" ∷ codes "REM" ∷ codes "BOM" ∷ codes "CSE" ∷ codes "EOM" ∷ []) → bytes_eq code (codes "RTY") ≡ false → is_inner (kind_of code) ≡ true
-inner_code code h rty = rw (h.1.1.0, h.1.1.1.0, rty, h.1.1.1.1.0, h.0, h.1.0) refl
+inner_code : (code : List ℕ) → AllByRecursion (λ known. bytes_eq code known ≡ false) (codes "NEX" ∷ codes "REM" ∷ codes "BOM" ∷ codes "CSE" ∷ codes "EOM" ∷ []) → bytes_eq code (codes "RTY") ≡ false → is_inner code ≡ true
+inner_code code h rty = rw (h.1.1.0, h.1.1.1.0, rty, h.1.1.1.1.0) refl
 
 inner_extra : (kind : Kind) (e : Extra) → IsExtra kind e → IsInner (extra_zone e)
 inner_extra kind e h = inner_code e.code (free_apart e.code h.free) (unknown kind e h).0
@@ -85,7 +85,7 @@ sheet_file s cse rs h = record {
   tail_is = refl;
 }
   where
-    charset_kind : (text : Option (List ℕ)) → IfSome (option_map cse_zone text) (λ z. kind_of z.code ≡ kind_of (codes "CSE"))
+    charset_kind : (text : Option (List ℕ)) → IfSome (option_map cse_zone text) (λ z. z.code ≡ codes "CSE")
     charset_kind None = tt
     charset_kind (Some text) = refl
 

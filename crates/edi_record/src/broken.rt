@@ -65,7 +65,7 @@ impl BrokenGroups {
         ensures zones { OnOk result (entries self.new.zones.items
             ≡ entries self.old.zones.items ++ entry zone.now ∷ []) }
     {
-        self.zones.push(zone.copied(alloc)?)?;
+        self.zones.push(zone.copy(alloc)?)?;
         Ok(())
     }
 

@@ -2,7 +2,7 @@
 use Rattle.std.specs.Prelude.{◌≡◌, ℕ, ◌+◌, ◌≤◌, true, List, [], ◌∷◌, ◌++◌, length, if◌then◌else◌, Some, None, Ok, Err}
 use Rattle.edi_line.specs.AllBroken.{AreAllBroken}
 use Rattle.edi_line.specs.Feeding.{seen_in}
-use Rattle.edi_line.specs.LineKinds.{kind_of}
+use Rattle.edi_line.specs.inner.Kinds.{kind_of}
 use Rattle.edi_line.specs.LineRules.{BreaksAt}
 use Rattle.edi_line.specs.Refusal.{Test, test}
 use Rattle.edi_line.specs.Spelling.{Reading}

@@ -1,9 +1,10 @@
 -- What a reader has of the zones, borrowed or owned.
 use Rattle.std.specs.Prelude.{◌≡◌, ℕ, ◌+◌, false, List, ◌∷◌, ◌++◌, length, Option, Some, None, option_map, option_to_list, IfSome, Ok, Err}
 use Rattle.std.specs.List.{AllByRecursion}
-use Rattle.edi_line.specs.LineKinds.{kind_of, starts, some_bears}
+use Rattle.edi_line.specs.LineKinds.{starts, some_bears}
 use Rattle.edi_line.specs.Spelling.{Reading}
 use Rattle.edi_line.specs.Zones.{IsBorrowedUnlessContinued}
+use Rattle.edi_line.specs.inner.Kinds.{kind_of}
 use Rattle.edi_line.specs.declared.order.ZoneKind.{ZoneKind}
 use Rattle.edi_line.specs.declared.order.ZoneKind.TheVariants.{Bom, Cse, Rty, Eom, Other, Next, Remark}
 use Rattle.edi_line.specs.declared.reading.Reader.{Reader}

@@ -4,7 +4,7 @@ use Rattle.edi_line.specs.Bytes.{most_records}
 use Rattle.edi_line.specs.ZoneData.{ZoneData}
 use Rattle.edi_line.specs.Spelling.{Spelling, Reading}
 use Rattle.edi_line.specs.inner.Zones.{Part, part_of, parts_after, with_more, entry_of}
-use Rattle.edi_line.specs.LineKinds.{kind_of, is_bom, is_cse, is_rty, is_eom, is_other, is_next, is_zone, starts}
+use Rattle.edi_line.specs.inner.Kinds.{kind_of, is_bom, is_cse, is_rty, is_eom, is_other_kind, is_next, is_zone_kind, is_start_kind}
 use Rattle.edi_line.specs.inner.Zones.Part.{Blank, Continues, IsRemark, Begins}
 use Rattle.edi_line.specs.LineRules.{BreaksAt}
 use Rattle.edi_line.specs.Refusal.{Test, test}
@@ -21,10 +21,10 @@ use Rattle.edi_line.specs.inner.ZoneLists.{zoned_list}
 abbrev pub kind_tests : Order → ZoneKind → List Test
 kind_tests seen kind =
     test 104 (is_next kind && not seen.started)
-    ∷ test 105 (is_zone kind && (not (is_bom kind) && not seen.begun))
-    ∷ test 107 (is_zone kind && seen.eom)
+    ∷ test 105 (is_zone_kind kind && (not (is_bom kind) && not seen.begun))
+    ∷ test 107 (is_zone_kind kind && seen.eom)
     ∷ test 108 ((is_bom kind && seen.bom) || (is_cse kind && (seen.cse || seen.rty)))
-    ∷ test 109 (is_other kind && not seen.rty)
+    ∷ test 109 (is_other_kind kind && not seen.rty)
     ∷ test 110 (is_rty kind && (seen.records == most_records))
     ∷ []
 
@@ -38,8 +38,8 @@ rule_of seen (Err rule) = Some rule
 
 abbrev pub noted_kind : Order → ZoneKind → Order
 noted_kind seen kind = record {
-  started = seen.started || starts kind;
-  begun = seen.begun || is_zone kind;
+  started = seen.started || is_start_kind kind;
+  begun = seen.begun || is_zone_kind kind;
   bom = seen.bom || is_bom kind;
   cse = seen.cse || is_cse kind;
   rty = seen.rty || is_rty kind;

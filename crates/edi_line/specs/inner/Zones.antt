@@ -1,7 +1,7 @@
 -- The zones of a file, line by line: what reading finds.
 use Rattle.std.specs.Prelude.{ℕ, suc, List, [], ◌∷◌, ◌++◌, Some, None, Ok, Err, map}
 use Rattle.edi_line.specs.ZoneData.{ZoneData}
-use Rattle.edi_line.specs.LineKinds.{kind_of}
+use Rattle.edi_line.specs.inner.Kinds.{kind_of}
 use Rattle.edi_line.specs.Spelling.{Spelling, Reading}
 use Rattle.edi_line.specs.inner.Lines.{line_contents}
 use Rattle.edi_line.specs.inner.Spelling.{reading_of}

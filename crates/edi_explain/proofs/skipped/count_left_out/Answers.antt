@@ -1,5 +1,5 @@
 use Rattle.std.proofs.Common.{◌≡◌, ◌≤◌, ◌∙◌, Bool, true, false, cond, length, rules, sym, ap, arith}
-use Rattle.edi_line.specs.LineKinds.{bears, is_remark}
+use Rattle.edi_line.specs.LineKinds.{bears, code_is}
 use Rattle.edi_explain.specs.inner.Skipped.{is_quality_content, is_quality_line}
 use Rattle.edi_explain.proofs.Quality.{quality_counted, quality_read}
 use Rattle.edi_explain.proofs.Remarks.{all_fine, fine_step, lines_more, no_lines, remark_read, remarks_counted}
@@ -22,7 +22,7 @@ loop-rest-preserved c =
     let fine = fine_step rest line behind c.first_line.ensures.lines i.fine in
     let quality = lines_more is_quality_line rest line behind c.first_line.ensures.lines c.is_quality.result
     (quality_read _ fine.0 ∙ (ap is_quality_content (sym c.content-own.ensures) ∙ sym c.is_quality.ensures)) in
-    let remarks = lines_more (bears is_remark) rest line behind c.first_line.ensures.lines c.is_remark.result
+    let remarks = lines_more (bears (code_is "REM")) rest line behind c.first_line.ensures.lines c.is_remark.result
     (remark_read _ fine.0 ∙ (ap (λ l. Rattle.std.specs.List.starts_with Rattle.std.proofs.Common.nat_eq l (Rattle.std.proofs.Common.codes "REM")) (sym c.content-own.ensures) ∙ sym c.is_remark.ensures)) in
     record {
       quality = omega (arith, quality, i.quality, c.one_if-quality.ensures);
@@ -40,4 +40,4 @@ returns-clause-quality c =
 pub returns-clause-remarks : goal.returns-clause-remarks
 returns-clause-remarks c =
     let none : length c.loop-rest.rest.now ≡ 0 = search rules in
-    remarks_counted c.args.bytes.now c.loop-rest.remarks (omega (arith, c.loop-rest.invariant.remarks, no_lines (bears is_remark) c.loop-rest.rest.now none))
+    remarks_counted c.args.bytes.now c.loop-rest.remarks (omega (arith, c.loop-rest.invariant.remarks, no_lines (bears (code_is "REM")) c.loop-rest.rest.now none))

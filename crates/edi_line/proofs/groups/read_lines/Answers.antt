@@ -2,17 +2,16 @@ use Rattle.std.proofs.Common.{◌≡◌, ◌∙◌, ◌∷◌, ◌++◌, [], Lis
 use Rattle.std.proofs.lemmas.Bool.{eqb-true}
 use Rattle.std.proofs.lemmas.List.{nil_from_length}
 use Rattle.std.proofs.lemmas.Result.{err_from_is_err_and}
-use Rattle.edi_line.specs.ZoneData.{ZoneData, entries}
+use Rattle.edi_line.specs.ZoneData.{ZoneData}
 use Rattle.edi_line.specs.LineRules.{BreaksIn}
 use Rattle.edi_line.specs.Refusal.{IsLeastBroken}
 use Rattle.edi_line.specs.Spelling.{Reading}
-use Rattle.edi_line.specs.inner.Groups.{handed_at_first, with_zones}
 use Rattle.edi_line.specs.inner.HandingOn.{IsAtLines, WentOn}
 use Rattle.edi_line.specs.inner.Held.{BreaksAtNext}
 use Rattle.edi_line.specs.inner.Spelling.{reading_of}
 use Rattle.edi_line.specs.inner.Zones.{readings_of}
 use Rattle.edi_line.proofs.Feeds.{if_broken}
-use Rattle.edi_line.proofs.HandedOn.{line_taken, zones_gone, went_nowhere, went_further, line_refused}
+use Rattle.edi_line.proofs.HandedOn.{line_taken, went_nowhere, went_further, line_refused}
 use Rattle.edi_line.proofs.Passes.{readings_step}
 use Rattle.edi_line.proofs.groups.read_lines.Goals as goal
 

@@ -1,7 +1,7 @@
 use Rattle.std.proofs.Common.{sym, ◌∙◌, subst}
 use Rattle.edi_line.specs.Lines.{IsEnded}
 use Rattle.edi_line.proofs.Cut.{ended_at_feed, none_at_feed}
-use Rattle.edi_line.proofs.lines.first_ended.Goals as goal
+use Rattle.edi_line.proofs.lines.first_ended_line.Goals as goal
 
 pub returns-in_err-feed-clause-none : goal.returns-in_err-feed-clause-none
 returns-in_err-feed-clause-none c = λ _. none_at_feed c.args.bytes.now (sym c.feed_in.ensures ∙ c.in_err-feed.was)
