@@ -57,10 +57,6 @@ none_open false xs n same none = refl
 none_open true [] n same none = refl
 none_open true (x ∷ xs) n same none = let wrong = none (omega (arith, same)) in absurd cc
 
-pub none_closed : {X : Type 0} (is_open : Bool) (xs : List X) → is_open ≡ false → open_of is_open xs ≡ None
-none_closed true xs is = absurd cc
-none_closed false xs is = refl
-
 pub open_is : {X : Type 0} (is_open : Bool) (xs : List X) (n : ℕ) (o : X) → is_open ≡ true → n + 1 ≡ length xs → o ≡ slice_index_or xs n o → open_of is_open xs ≡ Some o
 open_is true xs n o is e at = last_at xs n o e ∙ ap (λ x. Some x) (sym at)
 open_is false xs n o is e at = absurd cc
@@ -72,3 +68,9 @@ open_replaced false xs n v is e = absurd cc
 pub open_if_some : {X : Type 0} (is_open : Bool) (xs : List X) → is_some (open_of is_open xs) ≡ true → is_open ≡ true
 open_if_some true xs e = refl
 open_if_some false xs e = absurd cc
+
+-- a list of which one is open isn't empty
+pub open_has : {X : Type 0} (is_open : Bool) (xs : List X) → is_some (open_of is_open xs) ≡ true → 0 < length xs
+open_has true [] e = absurd cc
+open_has true (x ∷ xs) e = omega arith
+open_has false xs e = absurd cc

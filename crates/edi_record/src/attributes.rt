@@ -80,10 +80,8 @@ impl Attributes {
         ensures opens { OnOk result (LeavesOpen true (kept_attributes self.old list.old.items)
             (kept_attributes self.new list.new.items)) }
     {
-        let Some(last) = list.last_mut() else {
-            self.is_broken = true;
-            return Ok(());
-        };
+        let place = list.len() - 1;
+        let last = &mut list[place];
         if last.tex.is_some() {
             self.is_broken = true;
             return Ok(());
@@ -104,16 +102,13 @@ impl Attributes {
         ensures closes { OnOk result (LeavesOpen false (kept_attributes self.old list.old.items)
             (kept_attributes self.new list.new.items)) }
     {
-        let Some(last) = list.last_mut() else {
-            self.is_broken = true;
-            return Ok(());
-        };
-        if !self.is_open {
+        if !self.is_open(list) {
             self.is_broken = true;
             return Ok(());
         }
         self.is_open = false;
-        last.atv = Text::from_slice(alloc, text)?;
+        let last = list.len() - 1;
+        list[last].atv = Text::from_slice(alloc, text)?;
         Ok(())
     }
 

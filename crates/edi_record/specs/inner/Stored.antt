@@ -69,30 +69,28 @@ the_one Repeated = None
 abbrev pub SharedName : Type 0
 SharedName = Arc Name Global
 
--- with those that are left these are all the texts; or there are two or more
+-- with those that are left these are all the texts, and where one has come it says what is stored; or there are two or more
+abbrev pub AreStored : {T : Type 0} → (List ℕ → T → Type 0) → Only T → List (List ℕ) → List (List ℕ) → Type 0
+AreStored Says Absent left all = all ≡ left
+AreStored Says (One said) left all = (text : List ℕ) × Says text said × (all ≡ text ∷ left)
+AreStored Says Repeated left all = 2 ≤ length all
+
+-- the text itself is stored
 abbrev pub AreTexts : Only (List ℕ) → List (List ℕ) → List (List ℕ) → Type 0
-AreTexts Absent left all = all ≡ left
-AreTexts (One text) left all = all ≡ text ∷ left
-AreTexts Repeated left all = 2 ≤ length all
+AreTexts = AreStored (λ text said. text ≡ said)
 
 -- this number was read
 abbrev pub is_number : Option ℕ → ℕ → Bool
 is_number None n = false
 is_number (Some m) n = m == n
 
--- the same, where the number is stored that the text counts, or none where it counts none that there can be of zones
+-- the number is stored that the text counts, or none where it counts none that there can be of zones
 abbrev pub AreCounts : Only (Option ℕ) → List (List ℕ) → List (List ℕ) → Type 0
-AreCounts Absent left all = all ≡ left
-AreCounts (One number) left all =
-    (text : List ℕ) × ((n : ℕ) → n < 2 ^ 64 → is_number number n ≡ counts_right (text ∷ []) n) × (all ≡ text ∷ left)
-AreCounts Repeated left all = 2 ≤ length all
+AreCounts = AreStored (λ text number. (n : ℕ) → n < 2 ^ 64 → is_number number n ≡ counts_right (text ∷ []) n)
 
--- the same, where the class is stored that the text names, or none where it is no pointer
+-- the class is stored that the text names, or none where it is no pointer
 abbrev pub AreClassTexts : Only (Option SharedName) → List (List ℕ) → List (List ℕ) → Type 0
-AreClassTexts Absent left all = all ≡ left
-AreClassTexts (One class) left all =
-    (text : List ℕ) × (class_of text ≡ option_map (λ name. name.value) class) × (all ≡ text ∷ left)
-AreClassTexts Repeated left all = 2 ≤ length all
+AreClassTexts = AreStored (λ text class. class_of text ≡ option_map (λ name. name.value) class)
 
 -- a zone with this code and value goes from those that are left to those that have come
 abbrev pub Takes : {Part : Type 0} → (Part → List ZoneData → List ZoneData → Type 0) → List ℕ → List ℕ → Part → Part → Type 0

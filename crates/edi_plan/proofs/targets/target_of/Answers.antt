@@ -8,12 +8,12 @@ use Rattle.edi_plan.proofs.targets.target_of.Goals as goal
 
 pub returns-in_err-kind : goal.returns-in_err-kind
 returns-in_err-kind c = subst (IsTargetIfAny c.args.records.now c.args.end.now) (sym c.from_residual.ensures)
-    (leads_nowhere c.args.records.now c.args.end.now (ap target_kind (sym (c.as_slice.ensures ∙ c.rty.ensures)) ∙ (sym c.kind_coded.ensures ∙ c.in_err-kind.was)))
+    (leads_nowhere c.args.records.now c.args.end.now (ap target_kind (sym c.rty.ensures) ∙ (sym c.kind_coded.ensures ∙ c.in_err-kind.was)))
 
 pub returns : goal.returns
 returns c =
     let target : Name = c.args.end.now.target in
-    let kind = ap target_kind (sym (c.as_slice.ensures ∙ c.rty.ensures)) ∙ (sym c.kind_coded.ensures ∙ c.in_ok-kind.was) in
+    let kind = ap target_kind (sym c.rty.ensures) ∙ (sym c.kind_coded.ensures ∙ c.in_ok-kind.was) in
     let code = coded target.rty c.in_ok-kind.kind kind in
     let spelled : target ≡ record { rty = kind_code c.in_ok-kind.kind; rid = c.rid.result.now } =
     ap₂ (λ (rty rid : List ℕ). record { rty = rty; rid = rid }) code.0 (sym c.rid.ensures) in
