@@ -161,7 +161,7 @@ impl<'a> Open<'a> {
         match plan.role(place) {
             Role::Plain => LinkClass::Plain(plan.scp(place)),
             role => match self.is_reversed(of_second, plan, place) {
-                Some(true) => LinkClass::OfKind(role.exchanged()),
+                Some(true) => LinkClass::OfKind(role.opposite()),
                 Some(false) => LinkClass::OfKind(role),
                 None => LinkClass::OfKind(one_of_pair(role)),
             },

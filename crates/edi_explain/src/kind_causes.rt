@@ -59,7 +59,7 @@ fn alone_of(codes: &ByRole<&[u8]>, zones: &[Zone<'_>], role: Role) -> Option<Kin
         (IsCauseOf (groups_of (entries zones.now)) (codes_of codes.now) AloneClass role) }
 {
     let number = class_behind(codes, zones, role, 0)?;
-    match class_behind(codes, zones, role.exchanged(), 0) {
+    match class_behind(codes, zones, role.opposite(), 0) {
         Some(_) => None,
         None => Some(KindsCause {
             case: KindsCase::Alone,
@@ -90,7 +90,7 @@ fn barred_of(codes: &ByRole<&[u8]>, zones: &[Zone<'_>], role: Role) -> Option<Ki
         (IsCauseOf (groups_of (entries zones.now)) (codes_of codes.now) BarredClass role) }
 {
     let number = class_behind(codes, zones, role, 0)?;
-    let partner = class_behind(codes, zones, role.exchanged(), 0)?;
+    let partner = class_behind(codes, zones, role.opposite(), 0)?;
     if holds_semicolon(zones, number) && !holds_semicolon(zones, partner) {
         Some(KindsCause {
             case: KindsCase::Barred,

@@ -48,7 +48,7 @@ fn words_of_cause(alloc: Global, case: KindsCase, role: Role) -> Result<Vec<u8>,
             words.extend_from_slice(b"a class for ")?;
             words.extend_from_slice(kind_words(role))?;
             words.extend_from_slice(b", and there is none for ")?;
-            words.extend_from_slice(kind_words(role.exchanged()))?;
+            words.extend_from_slice(kind_words(role.opposite()))?;
         }
         KindsCase::Barred => {
             words.extend_from_slice(b"a class for ")?;

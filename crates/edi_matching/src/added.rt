@@ -78,7 +78,7 @@ fn add_sides(
 pub(crate) fn role_if_turned(role: Role, is_turned: bool) -> Role
     ensures { result ≡ (if is_turned then exchanged role else role) }
 {
-    if is_turned { role.exchanged() } else { role }
+    if is_turned { role.opposite() } else { role }
 }
 
 /// Where a record goes.

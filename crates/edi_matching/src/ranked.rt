@@ -112,7 +112,7 @@ impl<'a> Ranked<'a> {
     {
         let role = self.plan.role(place);
         if self.is_any_backward(self.plan.ends(place)) {
-            role.exchanged()
+            role.opposite()
         } else {
             role
         }

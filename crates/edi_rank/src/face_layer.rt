@@ -93,7 +93,7 @@ impl Layer for FaceLayer {
 fn side_after(role: Role, turned: bool) -> Role
     ensures { result ≡ (if turned then exchanged role else role) }
 {
-    if turned { role.exchanged() } else { role }
+    if turned { role.opposite() } else { role }
 }
 
 /// The lesser of two sides, of which the first may be missing.

@@ -20,7 +20,7 @@ pub enum Role {
 
 impl Role {
     /// The kind that is exchanged with this one where an arc is reversed.
-    pub fn exchanged(self) -> Role
+    pub fn opposite(self) -> Role
         ensures { result ≡ exchanged_role self }
     {
         match self {

@@ -212,7 +212,7 @@ impl Schema {
         ensures class { result ≡ partner_at self.now class }
         ensures within { IfSome result (λ partner. partner < length self.now) }
     {
-        let place = self.places.of(self.role(class).exchanged())?;
+        let place = self.places.of(self.role(class).opposite())?;
         Some(ClassRef::at(place))
     }
 

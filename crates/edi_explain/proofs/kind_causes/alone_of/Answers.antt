@@ -11,7 +11,7 @@ returns-in_err-number c = rw c.from_residual.ensures (λ h.
 
 pub returns-in-Some : goal.returns-in-Some
 returns-in-Some c = λ h.
-    h.2 c.in-Some.field-0 (of_role (groups_of (entries c.args.zones.now)) (codes_of c.args.codes.now) _ _ c.in-Some.field-0 c.exchanged.ensures c.in-Some.ensures.is.1)
+    h.2 c.in-Some.field-0 (of_role (groups_of (entries c.args.zones.now)) (codes_of c.args.codes.now) _ _ c.in-Some.field-0 c.opposite.ensures c.in-Some.ensures.is.1)
 
 pub returns-in-None : goal.returns-in-None
 returns-in-None c =
@@ -23,7 +23,7 @@ returns-in-None c =
       wrong = (
         c.in_ok-number.number,
         c.in_ok-number.ensures.is.1,
-        λ m h. c.in-None.ensures m (behind_all groups kinds c.exchanged.result m (of_role groups kinds _ _ m (sym c.exchanged.ensures) h)),
+        λ m h. c.in-None.ensures m (behind_all groups kinds c.opposite.result m (of_role groups kinds _ _ m (sym c.opposite.ensures) h)),
       );
       classes = (c.in_ok-number.ensures, refl);
     }
