@@ -4,7 +4,7 @@ use Rattle.std.specs.List.{between}
 use Rattle.std.proofs.lemmas.List.{append_assoc, take_at, drop_at}
 use Rattle.edi_line.specs.Bytes.{semicolon}
 use Rattle.edi_record.specs.Texts.{PointerText}
-use Rattle.edi_record.specs.inner.SharedParts.{IsStart, StartParts, parts_at, IsStartAt}
+use Rattle.edi_record.specs.inner.SharedParts.{IsStart, StartParts, parts_of_start, IsStartAt}
 use Rattle.edi_record.proofs.TextParts.{pointer_one}
 
 pub one_start : (bytes lot subset rty lot' subset' rty' : List ℕ) → IsStart bytes lot subset rty → IsStart bytes lot' subset' rty' → (lot ≡ lot') × (subset ≡ subset') × (rty ≡ rty')
@@ -22,14 +22,14 @@ middle a b c i j e f = ap (λ t. take (j - i) t) (drop_at a (b ++ c) i e) ∙ ta
 pub start_length : (bytes lot subset rty : List ℕ) → IsStart bytes lot subset rty → length bytes ≡ length lot + length subset + length rty + 3
 start_length bytes lot subset rty h = ap length h.is ∙ grind (arith, length-append)
 
-pub start_parts : (bytes lot subset rty : List ℕ) → IsStart bytes lot subset rty → parts_at bytes (length lot) (length lot + 1 + length subset) ≡ record { lot = lot; subset = subset; rty = rty }
+pub start_parts : (bytes lot subset rty : List ℕ) → IsStart bytes lot subset rty → parts_of_start bytes (length lot) (length lot + 1 + length subset) ≡ record { lot = lot; subset = subset; rty = rty }
 start_parts bytes lot subset rty h =
     ap (λ l. (let x : StartParts = record { lot = l; subset = (at).subset; rty = (at).rty } in x)) first
     ∙ ap (λ l. (let x : StartParts = record { lot = lot; subset = l; rty = (at).rty } in x)) second
     ∙ ap (λ l. (let x : StartParts = record { lot = lot; subset = subset; rty = l } in x)) third
   where
     at : StartParts
-    at = parts_at bytes (length lot) (length lot + 1 + length subset)
+    at = parts_of_start bytes (length lot) (length lot + 1 + length subset)
 
     first : take (length lot) bytes ≡ lot
     first = ap (λ t. take (length lot) t) h.is ∙ take_at lot _ _ refl

@@ -54,11 +54,11 @@ impl Drop for PointerStart {
 }
 
 impl Model for PointerStart {
-    ghost use Rattle.edi_record.specs.inner.SharedParts.{StartParts, parts_at, IsStartAt};
+    ghost use Rattle.edi_record.specs.inner.SharedParts.{StartParts, parts_of_start, IsStartAt};
 
     ghost Value = { StartParts };
 
-    ghost view = { λ s. parts_at s.bytes s.lot_end s.subset_end };
+    ghost view = { λ s. parts_of_start s.bytes s.lot_end s.subset_end };
 
     ghost invariant = { λ s. IsStartAt s.bytes s.lot_end s.subset_end };
 }

@@ -13,8 +13,8 @@ pub record StartParts : Type 0 where
   pub rty : List ℕ
 
 -- the parts of a start whose first two end at these places, where each has one byte behind it
-abbrev pub parts_at : List ℕ → ℕ → ℕ → StartParts
-parts_at bytes lot_end subset_end = record {
+abbrev pub parts_of_start : List ℕ → ℕ → ℕ → StartParts
+parts_of_start bytes lot_end subset_end = record {
   lot = take lot_end bytes;
   subset = slice_range bytes (lot_end + 1) subset_end;
   rty = slice_range bytes (subset_end + 1) (length bytes - 1);
@@ -24,4 +24,4 @@ parts_at bytes lot_end subset_end = record {
 pub record IsStartAt (bytes : List ℕ) (lot_end subset_end : ℕ) : Type 0 where
   pub order : lot_end + 1 ≤ subset_end
   pub room : subset_end + 2 ≤ length bytes
-  pub is : (let p = parts_at bytes lot_end subset_end in IsStart bytes p.lot p.subset p.rty)
+  pub is : (let p = parts_of_start bytes lot_end subset_end in IsStart bytes p.lot p.subset p.rty)
