@@ -1,8 +1,7 @@
 -- The lines of a file, one by one, and which are remarks.
-use Rattle.std.proofs.Common.{◌≡◌, ◌∙◌, ◌+◌, ◌++◌, ◌∷◌, inl, ℕ, Bool, true, false, cond, List, [], Some, None, Ok, Err, length, map, refl, sym, ap, subst, arith, codes, count_by, bytes_eq, nat_eq, append_assoc}
+use Rattle.std.proofs.Common.{◌≡◌, ◌∙◌, ◌+◌, ◌++◌, ◌∷◌, inl, ℕ, Bool, cond, List, [], Some, None, Ok, Err, length, map, refl, sym, ap, subst, arith, codes, count_by, nat_eq, append_assoc}
 use Rattle.std.specs.List.{AllByRecursion, starts_with}
 use Rattle.edi_schema.proofs.Paired.{count-cons}
-use Rattle.std.proofs.lemmas.Slice.Eq.{bytes_eq-Decides}
 use Rattle.edi_line.proofs.Readings.{readings_exist, rule_said}
 use Rattle.edi_line.specs.LineKinds.{bears, code_is}
 use Rattle.edi_line.specs.LineRules.{BreaksAt, BreaksLineRule}

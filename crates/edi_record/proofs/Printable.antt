@@ -30,7 +30,7 @@ use Rattle.edi_record.specs.declared.record.Value.{Value}
 use Rattle.edi_record.specs.declared.record.Value.TheVariants.{Number, Bytes}
 use Rattle.edi_record.specs.LinkEnds.{EndData}
 use Rattle.edi_record.specs.declared.record.Point.{Point}
-use Rattle.edi_record.proofs.Stated.{record_is, unknown, joined, mapped_each, behind, behind_is}
+use Rattle.edi_record.proofs.Stated.{record_is, joined, mapped_each, behind, behind_is}
 use Rattle.edi_record.proofs.SheetStated.{free_apart}
 
 abbrev feed_apart : ℕ → Type 0
