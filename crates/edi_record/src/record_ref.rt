@@ -7,7 +7,7 @@ ghost use Rattle.edi_record.specs.inner.RecordParts.{record_with_parts};
 use crate::any_record::AnyRecordRef;
 use crate::end::End;
 use crate::name::Name;
-use crate::record::{Attribute, Extra, Kind, Point, Record};
+use crate::record::{Attribute, Extra, Kind, Point};
 use crate::record_parts::RecordHead;
 use std::marker::Model;
 
@@ -102,22 +102,5 @@ impl<'a> RecordRef<'a> {
         ensures { result.now ≡ self.now.extras }
     {
         self.extras
-    }
-}
-
-impl Record {
-    /// The record, borrowed.
-    pub fn lend(&self) -> RecordRef<'_>
-        ensures { result ≡ self.now }
-    {
-        RecordRef {
-            kind: self.kind,
-            rid: self.rid.as_slice(),
-            scp: &self.scp,
-            points: self.points.as_slice(),
-            ends: self.ends.as_slice(),
-            attributes: self.attributes.as_slice(),
-            extras: self.extras.as_slice(),
-        }
     }
 }
