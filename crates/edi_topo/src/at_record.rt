@@ -14,7 +14,7 @@ ghost use Rattle.edi_topo.specs.TopologyRules.{BreaksTopologyRule};
 
 use crate::directions::equals_reverse;
 use crate::ends::{ends_elsewhere, starts_elsewhere};
-use crate::faces::faced;
+use crate::faces::side_marks;
 use crate::numbers::Ranks;
 use crate::{arcs, nodes};
 use edi_plan::Plan;
@@ -38,7 +38,7 @@ impl RecordFindings {
         Ok(RecordFindings {
             nodes: nodes::ranks_or_repeat(alloc, plan)?,
             arcs: arcs::ranks_or_repeat(alloc, plan)?,
-            faced: faced(alloc, plan)?,
+            faced: side_marks(alloc, plan)?,
         })
     }
 }

@@ -47,7 +47,7 @@ fn mark_sides(faced: &mut Vec<bool>, plan: &Plan, place: u32)
 }
 
 /// Of each record, whether some arc has it on its left or right.
-pub(crate) fn faced(alloc: Global, plan: &Plan) -> Result<Vec<bool>, AllocError>
+pub(crate) fn side_marks(alloc: Global, plan: &Plan) -> Result<Vec<bool>, AllocError>
     requires { IsJoined plan.now }
     ensures { IfOk result (λ faced. AreFaced plan.now faced.items) }
 {

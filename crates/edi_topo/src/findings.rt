@@ -13,7 +13,7 @@ ghost use Rattle.edi_topo.specs.TopologyRules.{BreaksTopologyRule};
 use crate::arcs::ArcLayer;
 use crate::directions::equals_reverse;
 use crate::ends::{ends_elsewhere, starts_elsewhere};
-use crate::faces::faced;
+use crate::faces::side_marks;
 use crate::marks::marks_by_place;
 use crate::nodes::NodeLayer;
 use crate::tie_marks::ties;
@@ -59,7 +59,7 @@ impl<'a> TopologyFindings<'a> {
             plan,
             nodes: repeated_nodes(alloc, plan)?,
             arcs: repeated_arcs(alloc, plan)?,
-            faced: faced(alloc, plan)?,
+            faced: side_marks(alloc, plan)?,
         })
     }
 

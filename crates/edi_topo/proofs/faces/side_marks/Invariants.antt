@@ -1,5 +1,5 @@
 use Rattle.edi_topo.specs.inner.Faces.{AreFacedBelow}
-use Rattle.edi_topo.proofs.faces.faced.Given as goal
+use Rattle.edi_topo.proofs.faces.side_marks.Given as goal
 
 abbrev pub invariant-loop-place : goal.invariant-loop-place
 invariant-loop-place l = AreFacedBelow l.plan l.place l.faced.items
