@@ -41,7 +41,7 @@ pub fn numbered_records(
     ensures { IfOk result (IsNumbered plan.now labels) }
 {
     let kinds = kinds_of(alloc, plan)?;
-    let (numbers, turned) = labels.into_numbers_and_turned();
+    let (numbers, turned) = labels.into_numbers_and_turned_arcs();
     Ok(NumberedRecords {
         kinds,
         numbers,
@@ -77,7 +77,7 @@ pub fn paired(
     for place in 0..first.kinds.len() {
         let target = counterpart(first, others, place);
         to.push(target)?;
-        turned.push(first.turned.as_slice()[place] != others.turned(target))?;
+        turned.push(first.turned.as_slice()[place] != others.is_turned(target))?;
     }
     Ok(Pairing {
         to: Sequence::from_vec(to),

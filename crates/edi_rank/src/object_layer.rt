@@ -106,12 +106,12 @@ impl<'a> ObjectLayer<'a> {
         plan.keeps();
         let numbers = lower_numbers(alloc, plan, nodes, arcs, faces)?;
         let orders = lower_orders(alloc, plan, &numbers)?;
-        ObjectLayer::numbered(alloc, plan, numbers, orders)
+        ObjectLayer::from_numbers(alloc, plan, numbers, orders)
     }
 
     /// The objects of a plan, where its nodes, arcs and faces have these numbers, by place, and its objects have 0,
     /// with the positions of the other ends of each record in their order, where at most one is an object.
-    pub(crate) fn numbered(
+    pub(crate) fn from_numbers(
         alloc: Global,
         plan: &'a Plan,
         numbers: Vec<u32>,
