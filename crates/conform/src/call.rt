@@ -78,7 +78,7 @@ fn push_over_sheets(
         "compare" => pairs::push_compared(alloc, setting, schema, case, text),
         "pairing" => pairs::push_paired(alloc, schema, case, text),
         "check_pairing" => pairs::push_checked(alloc, schema, case, text),
-        "first_uncarried" => pairs::push_uncarried(alloc, schema, case, text),
+        "find_uncarried" => pairs::push_uncarried(alloc, schema, case, text),
         _ => text.push_str("no such call\n"),
     }
 }

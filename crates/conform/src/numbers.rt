@@ -23,8 +23,8 @@ pub(crate) fn push_numbers(
 
 fn push_number(alloc: Global, number: Num, text: &mut String) -> Result<(), AllocError> {
     write!(text, "{} ", number.millionths())?;
-    push_bytes(text, &number.plain_text(alloc)?)?;
+    push_bytes(text, &number.plain(alloc)?)?;
     text.push_str(" ")?;
-    push_bytes(text, &number.signed_text(alloc)?)?;
+    push_bytes(text, &number.signed(alloc)?)?;
     text.push_str("\n")
 }

@@ -8,7 +8,7 @@ use crate::refusals::{push_pair_fault, push_run_fault, push_sheet_fault};
 use crate::setting::Setting;
 use edi_compare::{
     Accepted, Fault, Pairing, RecordPart, Uncarried, Verdict, WrongPartner, accept, check_pairing,
-    compare, first_uncarried, run_compare,
+    compare, find_uncarried, run_compare,
 };
 use edi_line::{ScriptIn, Sequence};
 use edi_schema::Schema;
@@ -178,7 +178,7 @@ fn push_answer(
     writeln!(text, "{carries}")
 }
 
-/// What `first_uncarried` answers of two sheets and a pairing, with the numbers of records from 1.
+/// What `find_uncarried` answers of two sheets and a pairing, with the numbers of records from 1.
 pub(crate) fn push_uncarried(
     alloc: Global,
     schema: &Schema,
@@ -188,7 +188,7 @@ pub(crate) fn push_uncarried(
     let pairing = pairing_of(alloc, case.input(2))?;
     match accept_both(alloc, schema, case) {
         Ok((first, second)) => {
-            let why = first_uncarried(alloc, schema, &first, &second, &pairing)?;
+            let why = find_uncarried(alloc, schema, &first, &second, &pairing)?;
             push_reason(text, why)
         }
         Err((which, fault)) => push_sheet_fault(text, which, fault),

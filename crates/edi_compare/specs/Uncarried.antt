@@ -1,6 +1,6 @@
 -- Why a pairing doesn't carry one plan onto another.
 --
--- `first_uncarried` finds nothing exactly if the pairing carries (`PairingCarries`); otherwise it says why not, by
+-- `find_uncarried` finds nothing exactly if the pairing carries (`PairingCarries`); otherwise it says why not, by
 -- `IsUncarriedBy`: the first record in file order that isn't carried, where nothing that concerns all of them comes
 -- first.
 use Rattle.std.specs.Prelude.{◌≡◌, ◌≢◌, ℕ, ◌<◌, ◌≤◌, Bool, true, length, map, option_map, slice_index, IsPermutation}

@@ -9,7 +9,7 @@ use crate::contents::{same_attributes, same_extras, same_points};
 use crate::moved_ends::same_ends;
 use crate::uncarried::RecordPart;
 use edi_plan::Plan;
-use edi_rank::class_turned;
+use edi_rank::class_after_reversals;
 use edi_record::Kind;
 use edi_schema::Schema;
 use std::alloc::{AllocError, Global};
@@ -100,7 +100,8 @@ impl<'a> Carrier<'a> {
             RecordPart::Reversal => Ok(!turned || self.plan.kind(place) == Kind::Par),
             RecordPart::Kind => Ok(self.other.kind(target) == self.plan.kind(place)),
             RecordPart::Class => Ok(
-                self.other.scp(target) == class_turned(self.schema, self.plan, self.turned, place),
+                self.other.scp(target)
+                    == class_after_reversals(self.schema, self.plan, self.turned, place),
             ),
             RecordPart::Points => Ok(same_points(
                 self.plan.points(place),

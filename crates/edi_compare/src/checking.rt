@@ -31,7 +31,7 @@ pub fn check_pairing(
     requires { HasClasses schema.now first.now }
     ensures { IfOk result (λ answer. IsTrue answer ↔ PairingCarries schema.now first.now second.now pairing.now) }
 {
-    match first_uncarried(alloc, schema, first, second, pairing)? {
+    match find_uncarried(alloc, schema, first, second, pairing)? {
         Some(_) => Ok(false),
         None => Ok(true),
     }
@@ -39,7 +39,7 @@ pub fn check_pairing(
 
 /// Why a pairing doesn't carry the first plan onto the second, of two sheets that were accepted under this schema, or
 /// nothing where it carries: `check_pairing` is this, without the reason. The only error is want of memory.
-pub fn first_uncarried(
+pub fn find_uncarried(
     alloc: Global,
     schema: &Schema,
     first: &Accepted,

@@ -41,7 +41,7 @@ pub fn numbered_records(
     ensures { IfOk result (IsNumbered plan.now labels) }
 {
     let kinds = kinds_of(alloc, plan)?;
-    let (numbers, turned) = labels.into_numbers_and_turned();
+    let (numbers, turned) = labels.into_numbers_and_turned_arcs();
     Ok(NumberedRecords {
         kinds,
         numbers,
@@ -64,7 +64,7 @@ fn kinds_of(alloc: Global, plan: &Plan) -> Result<Vec<Kind>, AllocError>
 
 /// The pairing of the records of two sheets by their types and numbers. It is worth nothing by itself: `check_pairing`
 /// says whether it carries.
-pub fn paired(
+pub fn pairing_by_numbers(
     alloc: Global,
     first: &NumberedRecords,
     others: &Labels,

@@ -62,7 +62,7 @@ impl Num {
 
     /// The plain spelling: a `-` where it is negative, the whole part without leading zeros but at
     /// least `0`, then a point and the fraction without trailing zeros if it isn't 0.
-    pub fn plain_text(self, alloc: Global) -> Result<Vec<u8>, AllocError>
+    pub fn plain(self, alloc: Global) -> Result<Vec<u8>, AllocError>
         ensures { IfOk result (λ text. text.items ≡ plain_text self) }
     {
         let mut text = Vec::new(alloc);
@@ -81,7 +81,7 @@ impl Num {
     }
 
     /// The plain spelling with a `+` where there is no `-`; zero is `+0`.
-    pub fn signed_text(self, alloc: Global) -> Result<Vec<u8>, AllocError>
+    pub fn signed(self, alloc: Global) -> Result<Vec<u8>, AllocError>
         ensures { IfOk result (λ text. text.items ≡ signed_text self) }
     {
         let mut text = Vec::new(alloc);

@@ -14,7 +14,7 @@ use crate::added::target_of;
 use crate::ranked::{Member, Ranked};
 use edi_line::{BorrowedList, ListOfBorrowed, Sequence};
 use edi_plan::{Plan, PlanAttribute, PlanEnd, sorted_attributes};
-use edi_rank::{LinkKey, NumberedEnd, class_turned, plain_ends};
+use edi_rank::{LinkKey, NumberedEnd, class_after_reversals, plain_ends};
 use edi_record::{Extra, Kind};
 use edi_schema::{ClassRef, Schema};
 use std::alloc::{AllocError, Global};
@@ -101,7 +101,7 @@ fn link_there<'a>(
     if plain_ends(plan, place).is_some() {
         return Ok(None);
     }
-    let class = class_turned(schema, plan, turned, place);
+    let class = class_after_reversals(schema, plan, turned, place);
     match ends_there(alloc, plan, to, plan.ends(place))? {
         Some(ends) => Ok(Some(link_key(alloc, plan, place, class, ends)?)),
         None => Ok(None),

@@ -22,7 +22,7 @@ use crate::record::Proposed;
 use edi_compare::Accepted;
 use edi_line::Sequence;
 use edi_plan::{Plan, PlanEnd};
-use edi_rank::{LinkKey, NumberedEnd, class_turned, numbered_end};
+use edi_rank::{LinkKey, NumberedEnd, class_after_reversals, numbered_end};
 use edi_record::Kind;
 use edi_schema::{ClassRef, Schema};
 use std::alloc::{AllocError, Global};
@@ -116,7 +116,7 @@ impl<'a> Proposed<'a> {
         requires { IsPlace self.now.plan place }
         ensures { IfOk result (λ key. key ≡ key_there self.now place) }
     {
-        let class = class_turned(self.schema, self.plan, self.turned, place);
+        let class = class_after_reversals(self.schema, self.plan, self.turned, place);
         moved_key(alloc, self.plan, self.targets, class, place)
     }
 

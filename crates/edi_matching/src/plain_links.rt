@@ -10,7 +10,7 @@ ghost use Rattle.edi_matching.specs.inner.PlainLinks.{plain_link};
 
 use crate::added::target_of;
 use edi_plan::Plan;
-use edi_rank::{class_turned, plain_ends};
+use edi_rank::{class_after_reversals, plain_ends};
 use edi_record::Kind;
 use edi_schema::{ClassRef, Schema};
 use std::alloc::{AllocError, Global};
@@ -66,7 +66,7 @@ fn plain_link(
     }
     let (origin, other) = plain_ends(plan, place)?;
     Some(PlainLink {
-        class: class_turned(schema, plan, turned, place),
+        class: class_after_reversals(schema, plan, turned, place),
         origin: target_of(to, origin.target)?,
         other: target_of(to, other.target)?,
     })

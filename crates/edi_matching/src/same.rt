@@ -11,7 +11,7 @@ ghost use Rattle.edi_matching.specs.inner.Same.{AreAsMany};
 use crate::checksum::plan_checksum;
 use edi_compare::comparing_accepted::labels_of;
 use edi_compare::contents::same_texts;
-use edi_compare::numbered::{numbered_records, paired};
+use edi_compare::numbered::{numbered_records, pairing_by_numbers};
 use edi_compare::{Accepted, Pairing, check_pairing};
 use edi_plan::Plan;
 use edi_rank::Labels;
@@ -71,7 +71,7 @@ fn pairing_by_labels(
         return Ok(None);
     }
     let records = numbered_records(alloc, first.sound().plan(), labels)?;
-    let pairing = paired(alloc, &records, others)?;
+    let pairing = pairing_by_numbers(alloc, &records, others)?;
     if check_pairing(alloc, schema, first, second, &pairing)? {
         Ok(Some(pairing))
     } else {

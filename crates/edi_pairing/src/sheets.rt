@@ -7,7 +7,9 @@ ghost use Rattle.edi_pairing.specs.NamedSheets.{IsNamedSheet};
 
 use crate::names::RecordNames;
 use crate::taken::TakenNames;
-use edi_compare::{Accepted, CompareFault, Fault, accept_with, first_refused, second_refused};
+use edi_compare::{
+    Accepted, CompareFault, Fault, accept_with, refusal_of_first, refusal_of_second,
+};
 use edi_line::FileBytes;
 use edi_schema::Schema;
 use std::alloc::Global;
@@ -54,10 +56,10 @@ pub fn name_both(
 {
     let first = match name_sheet(alloc, schema, a) {
         Ok(sheet) => sheet,
-        Err(fault) => return Err(first_refused(fault)),
+        Err(fault) => return Err(refusal_of_first(fault)),
     };
     match name_sheet(alloc, schema, b) {
         Ok(second) => Ok((first, second)),
-        Err(fault) => Err(second_refused(fault)),
+        Err(fault) => Err(refusal_of_second(fault)),
     }
 }

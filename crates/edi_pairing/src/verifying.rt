@@ -11,7 +11,7 @@ use crate::fault::VerifyFault;
 use crate::reading::read_pairing;
 use crate::sheets::{NamedSheet, name_both};
 use crate::verified::{Verified, unpaired_by};
-use edi_compare::{Pairing, first_uncarried};
+use edi_compare::{Pairing, find_uncarried};
 use edi_line::FileBytes;
 use edi_schema::Schema;
 use std::alloc::{AllocError, Global};
@@ -57,7 +57,7 @@ fn judge(
         (IsVerifyAnswer schema.now first.now.accepted second.now.accepted first.now.names second.now.names
         pairing.now) }
 {
-    match first_uncarried(alloc, schema, &first.accepted, &second.accepted, pairing)? {
+    match find_uncarried(alloc, schema, &first.accepted, &second.accepted, pairing)? {
         Some(why) => {
             let why = unpaired_by(alloc, &first.names, &second.names, pairing, why)?;
             Ok(Verified::Fails(why))

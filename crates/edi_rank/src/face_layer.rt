@@ -11,7 +11,7 @@ ghost use Rattle.edi_rank.specs.Labelling.{turned_at};
 ghost use Rattle.edi_rank.specs.Turned.{is_backward};
 ghost use Rattle.edi_rank.specs.Layers.{face_keys, forward_plan, no_side};
 
-use crate::forward::{turned_arcs, turned_in};
+use crate::forward::{is_turned_in, turned_arcs};
 use crate::keys::{FaceKey, compare_faces};
 use crate::numbering::number_kind;
 use edi_line::Sequence;
@@ -47,11 +47,11 @@ impl FaceLayer {
         ensures { IfOk result (λ layer. layer ≡ face_keys sound.now arcs.now) }
     {
         let turned = turned_arcs(alloc, sound.plan())?;
-        FaceLayer::with_turned(alloc, sound, arcs, &turned)
+        FaceLayer::with_turned_arcs(alloc, sound, arcs, &turned)
     }
 
     /// The faces of a plan, where its arcs have these numbers and these of them aren't forward.
-    pub(crate) fn with_turned(
+    pub(crate) fn with_turned_arcs(
         alloc: Global,
         sound: &Sound,
         arcs: &Ranks,
@@ -135,7 +135,7 @@ fn take_side(
     if let Some(face) = plan.side(arc, role) {
         let key = FaceKey {
             arc: numbers[arc as usize],
-            side: side_after(role, turned_in(plan, turned, arc)),
+            side: side_after(role, is_turned_in(plan, turned, arc)),
         };
         let least = &mut sides[face as usize];
         *least = Some(lesser_side(*least, key));

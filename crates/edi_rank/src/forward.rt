@@ -22,7 +22,7 @@ pub(crate) fn is_turned(plan: &Plan, place: u32) -> bool
 }
 
 /// Whether the record is an arc that isn't forward, by the list of those.
-pub(crate) fn turned_in(plan: &Plan, turned: &[bool], place: u32) -> bool
+pub(crate) fn is_turned_in(plan: &Plan, turned: &[bool], place: u32) -> bool
     requires place { IsPlace plan.now place }
     requires long { length turned.now ≡ length plan.now.list }
     requires turned { (k : ℕ) → IsPlace plan.now k → turned_at turned.now k ≡ is_backward plan.now k }

@@ -146,7 +146,7 @@ impl Labels {
     }
 
     /// The number of each record among those of its type, from 1, and whether each is an arc that is turned, by place.
-    pub fn into_numbers_and_turned(self) -> (Sequence<u32>, Sequence<bool>)
+    pub fn into_numbers_and_turned_arcs(self) -> (Sequence<u32>, Sequence<bool>)
         ensures numbers { result.0 ≡ self.numbers }
         ensures turned { result.1 ≡ self.turned }
     {
@@ -218,7 +218,7 @@ pub(crate) fn numbered_objects<'a>(
     let lower = lower_ranks(alloc, sound, &turned)?;
     let below_objects = lower_numbers(alloc, plan, lower.nodes, lower.arcs, &lower.faces)?;
     let orders = lower_orders(alloc, plan, &below_objects)?;
-    ObjectLayer::numbered(alloc, plan, below_objects, orders)
+    ObjectLayer::from_numbers(alloc, plan, below_objects, orders)
 }
 
 /// The numbers of the faces, in file order.
@@ -234,7 +234,7 @@ fn face_ranks(
     ensures { IfOk result (IsFaceRanking sound.now arcs.now) }
 {
     let _plan = sound.plan();
-    let layer = FaceLayer::with_turned(alloc, sound, arcs, turned)?;
+    let layer = FaceLayer::with_turned_arcs(alloc, sound, arcs, turned)?;
     match ranks(alloc, &layer) {
         Ok(ranks) => Ok(ranks),
         Err(TieFault::Memory(error)) => Err(error),
@@ -292,7 +292,7 @@ fn number_objects(alloc: Global, sound: &Sound, numbers: Vec<u32>) -> Result<Bel
 {
     let plan = sound.plan();
     let lower = lower_orders(alloc, plan, &numbers)?;
-    let layer = ObjectLayer::numbered(alloc, plan, numbers, lower)?;
+    let layer = ObjectLayer::from_numbers(alloc, plan, numbers, lower)?;
     let objects = object_ranks(alloc, sound, &layer)?;
     let (numbers, lower) = layer.into_parts();
     let numbers = number_kind(plan, Kind::Fea, &objects, numbers);

@@ -23,6 +23,6 @@ pub use face_layer::FaceLayer;
 pub use fault::RankFault;
 pub use keys::{FaceKey, LinkKey, NumberedEnd, ObjectKey};
 pub use labels::{Labels, tell_objects_apart};
-pub use link_key::{class_turned, plain_ends};
+pub use link_key::{class_after_reversals, plain_ends};
 pub use object_layer::ObjectLayer;
 pub use repeated::repeated_objects;

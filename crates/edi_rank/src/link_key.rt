@@ -81,7 +81,7 @@ fn ends_at_turned(turned: &[bool], ends: &[PlanEnd]) -> bool
 
 /// The class of a record after the reversals: that of a link of the four kinds is exchanged with its
 /// partner where an end is an arc that is turned. `turned` says of each record whether it is one, by place.
-pub fn class_turned(schema: &Schema, plan: &Plan, turned: &[bool], place: u32) -> ClassRef
+pub fn class_after_reversals(schema: &Schema, plan: &Plan, turned: &[bool], place: u32) -> ClassRef
     requires place { IsPlace plan.now place }
     requires class { (record_at plan.now place).class < length schema.now }
     requires turned { length turned.now ≡ length plan.now.list }

@@ -8,7 +8,7 @@ ghost use Rattle.edi_plan.specs.Plans.{IsPlace};
 ghost use Rattle.edi_rank.specs.EndOrder.{OthersInOrder};
 ghost use Rattle.edi_rank.specs.inner.Layers.{placed_link_key};
 
-use crate::link_key::{class_turned, is_bare, link_key_at, plain_pair};
+use crate::link_key::{class_after_reversals, is_bare, link_key_at, plain_pair};
 use crate::placed_link::PlacedLink;
 use crate::sparse_list::SparseList;
 use edi_plan::Plan;
@@ -104,12 +104,12 @@ impl<'a> Layer for LinkLayer<'a> {
 
     fn key(&self, alloc: Global, member: u32) -> Result<PlacedLink<'a>, AllocError> {
         let place = self.place(member);
-        let class = class_turned(self.schema, self.plan, self.turned, place);
+        let class = class_after_reversals(self.schema, self.plan, self.turned, place);
         if let Some(pair) = plain_pair(self.plan, self.numbers, place) {
-            return Ok(PlacedLink::pair(class, pair, place));
+            return Ok(PlacedLink::from_pair(class, pair, place));
         }
         let order = self.orders[place as usize].as_slice();
         let key = link_key_at(alloc, self.plan, self.numbers, order, class, place)?;
-        PlacedLink::whole(alloc, key, is_bare(self.plan, place), place)
+        PlacedLink::from_key(alloc, key, is_bare(self.plan, place), place)
     }
 }

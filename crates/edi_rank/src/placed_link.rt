@@ -91,7 +91,7 @@ impl<'a> Model for PlacedLink<'a> {
 
 impl<'a> PlacedLink<'a> {
     /// The key of a link of two ends without SNS and nothing else, with its place.
-    pub(crate) fn pair(class: ClassRef, pair: PlainPair, place: u32) -> PlacedLink<'a>
+    pub(crate) fn from_pair(class: ClassRef, pair: PlainPair, place: u32) -> PlacedLink<'a>
         ensures { result ≡ (pair_key class pair, place) }
     {
         PlacedLink {
@@ -102,7 +102,7 @@ impl<'a> PlacedLink<'a> {
     }
 
     /// A key with its place, where it is known whether the key has neither attributes nor extra zones.
-    pub(crate) fn whole(
+    pub(crate) fn from_key(
         alloc: Global,
         key: LinkKey<'a>,
         is_bare: bool,

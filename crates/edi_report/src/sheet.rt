@@ -15,7 +15,9 @@ ghost use Rattle.edi_report.specs.inner.Sheets.{IsPackedSheet, IsUnpacked};
 
 use crate::packed::PackedSites;
 use crate::site::Site;
-use edi_compare::{Accepted, CompareFault, Fault, accept_with, first_refused, second_refused};
+use edi_compare::{
+    Accepted, CompareFault, Fault, accept_with, refusal_of_first, refusal_of_second,
+};
 use edi_line::{FileBytes, Sequence};
 use edi_plan::Plan;
 use edi_record::Kind;
@@ -156,11 +158,11 @@ fn locate_both_packed(
 {
     let first = match locate_packed(alloc, schema, a) {
         Ok(sheet) => sheet,
-        Err(fault) => return Err(first_refused(fault)),
+        Err(fault) => return Err(refusal_of_first(fault)),
     };
     match locate_packed(alloc, schema, b) {
         Ok(second) => Ok((first, second)),
-        Err(fault) => Err(second_refused(fault)),
+        Err(fault) => Err(refusal_of_second(fault)),
     }
 }
 

@@ -22,7 +22,7 @@ use crate::names::{type_zone, write_identifier};
 use crate::page::Page;
 use crate::parts::{write_attribute, write_extra, write_point};
 use edi_plan::{PlanAttribute, sorted_attributes};
-use edi_rank::class_turned;
+use edi_rank::class_after_reversals;
 use edi_record::{Extra, Kind, Point};
 use edi_schema::Schema;
 use itoa::Buffer;
@@ -145,7 +145,7 @@ impl<'a> LabelledPlan<'a> {
         let kind = self.plan.kind(place);
         page.file.extend_from_slice(type_zone(kind))?;
         write_identifier(page, kind, self.labels.number(place))?;
-        let class = class_turned(self.schema, self.plan, self.labels.turned_arcs(), place);
+        let class = class_after_reversals(self.schema, self.plan, self.labels.turned_arcs(), place);
         line.write(page, self.schema, class)
     }
 

@@ -15,7 +15,7 @@ ghost use Rattle.uses.specs.Callers.{MatchUnwritten, SomePairing, GetsFirst, Get
 
 use edi_compare::{
     Accepted, CompareFault, Fault, Pairing, Uncarried, Verdict, accept, canon, check_pairing,
-    compare, compare_accepted, first_refused, first_uncarried, second_refused,
+    compare, compare_accepted, find_uncarried, refusal_of_first, refusal_of_second,
 };
 use edi_line::ByteOut;
 use edi_schema::{Kinds, Schema, SchemaFault};
@@ -141,11 +141,11 @@ pub fn checked_pairing(
 {
     let accepted = match accept(alloc, schema, first) {
         Ok(accepted) => accepted,
-        Err(fault) => return Err(first_refused(fault)),
+        Err(fault) => return Err(refusal_of_first(fault)),
     };
     let other = match accept(alloc, schema, second) {
         Ok(accepted) => accepted,
-        Err(fault) => return Err(second_refused(fault)),
+        Err(fault) => return Err(refusal_of_second(fault)),
     };
     match pairing_of_accepted(alloc, schema, &accepted, &other) {
         Ok(found) => Ok(found),
@@ -187,7 +187,7 @@ pub fn first_wrong_record(
     ensures not { IfOk result (λ found. IfSome found (λ _.
         ¬ (PairingCarries schema.now first.now second.now pairing.now))) }
 {
-    match first_uncarried(alloc, schema, first, second, pairing)? {
+    match find_uncarried(alloc, schema, first, second, pairing)? {
         Some(Uncarried::Record { place, .. }) => Ok(Some(place)),
         Some(_) | None => Ok(None),
     }

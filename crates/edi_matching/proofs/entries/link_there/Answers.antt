@@ -12,5 +12,5 @@ returns-in_ok-link_key-in-Some c =
     let ends = c.in-Some.ends.items in
     let goes : ends_there p c.args.to.now r.ends ≡ Some ends = ap (ends_there p c.args.to.now) (sym c.ends.ensures)
     ∙ (sym c.in_ok-ends.ensures ∙ ap (option_map (λ (v : Vec NumberedEnd Global). v.items)) c.in-Some.is) in
-    ap Some (c.in_ok-link_key-in-Some.ensures ∙ ap (λ k. link_key_with k ends r) c.class_turned-class.ensures)
+    ap Some (c.in_ok-link_key-in-Some.ensures ∙ ap (λ k. link_key_with k ends r) c.class_after_reversals-class.ensures)
     ∙ sym (link_known c.args.schema.now p c.args.to.now c.args.turned.now r c.plain_ends.result (sym c.is_some.ensures ∙ c.if-is_some.false) c.plain_ends.ensures.ends c.plain_ends.ensures.none ends goes)

@@ -9,8 +9,8 @@ returns-then-not-are_as_many c =
     not_as_many c.args.schema.now c.args.first.now c.args.second.now c.args.labels c.args.others.now c.keeps.ensures c.requires.first c.requires.second c.requires.labels c.requires.others
     c.are_as_many.result c.are_as_many.ensures c.if-not-are_as_many.true
 
-pub paired-requires : goal.paired-requires
-paired-requires c =
+pub pairing_by_numbers-requires : goal.pairing_by_numbers-requires
+pairing_by_numbers-requires c =
     many_have_counterparts c.args.schema.now c.args.first.now c.args.second.now c.args.labels c.args.others.now c.requires.labels c.requires.others
     c.in_ok-records.records (subst (λ (p : PlanData). IsNumbered p c.args.labels c.in_ok-records.records) (c.plan.ensures.plan ∙ c.sound.ensures) c.in_ok-records.ensures)
     (c.are_as_many.ensures.0 c.if-not-are_as_many.false)

@@ -18,4 +18,4 @@ returns-in-Some-clause-taken c =
     one_taken p (λ k. get_or c.args.numbers.now k 0) c.keeps.ensures.joined c.args.arc c.args.role c.args.sides.now.items c.in-Some.face c.lesser_side.result c.requires.long there c.in-Some.ensures
     (c.lesser_side.ensures ∙ ap₂ lesser_of
     (c.index_mut-least.ensures.value ∙ get_or_default c.args.sides.now.items c.in-Some.face c.index_mut-least.result.now None (omega (arith, there, c.requires.long)))
-    (ap (λ side. record { arc = get_or c.args.numbers.now c.args.arc 0; side = side }) (c.side_after.ensures ∙ ap (λ turned. cond turned (exchanged c.args.role) c.args.role) c.turned_in.ensures)))
+    (ap (λ side. record { arc = get_or c.args.numbers.now c.args.arc 0; side = side }) (c.side_after.ensures ∙ ap (λ turned. cond turned (exchanged c.args.role) c.args.role) c.is_turned_in.ensures)))

@@ -21,12 +21,12 @@ still q whole one other orders rest lower k h few = in_order_still q (λ j. get_
     (others_of (record_at q k)) (rest_hold (λ e. IsPlace q e.target) (record_at q k).ends (whole.there k h)))
     (lower k h few)
 
-pub numbered-requires-clause-objects : goal.numbered-requires-clause-objects
-numbered-requires-clause-objects c =
+pub from_numbers-requires-clause-objects : goal.from_numbers-requires-clause-objects
+from_numbers-requires-clause-objects c =
     subst (λ (q : PlanData). (k : ℕ) → IsPlace q k → is_object (record_at q k).kind ≡ true → get_or c.args.numbers.items k 0 ≡ 0) (sym c.plan-plan.ensures.plan) c.requires.objects
 
-pub numbered-requires-clause-orders : goal.numbered-requires-clause-orders
-numbered-requires-clause-orders c =
+pub from_numbers-requires-clause-orders : goal.from_numbers-requires-clause-orders
+from_numbers-requires-clause-orders c =
     subst (λ numbers. LowerInOrder c.plan-plan.result.now numbers c.in_ok-lower.lower.items) c.deref.ensures.value c.in_ok-lower.ensures.orders
 
 pub all_orders-requires-clause-lower : goal.all_orders-requires-clause-lower

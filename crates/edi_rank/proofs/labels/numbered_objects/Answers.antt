@@ -14,20 +14,20 @@ use Rattle.edi_rank.proofs.labels.numbered_objects.Goals as goal
 abbrev LowerInOrder : PlanData → List ℕ → List (List ℕ) → Type 0
 LowerInOrder q numbers orders = (k : ℕ) → IsPlace q k → object_count q (others_of (record_at q k)) ≤ 1 → OthersInOrder q (λ j. get_or numbers j 0) orders k
 
-pub numbered-requires-clause-objects : goal.numbered-requires-clause-objects
-numbered-requires-clause-objects c =
+pub from_numbers-requires-clause-objects : goal.from_numbers-requires-clause-objects
+from_numbers-requires-clause-objects c =
     let lower = c.in_ok-lower.lower in
     objects_zero c.plan-plan.result.now lower.nodes.now lower.arcs.now lower.faces c.in_ok-below_objects.below_objects.items c.in_ok-below_objects.ensures.ranked
 
-pub numbered-requires-clause-orders : goal.numbered-requires-clause-orders
-numbered-requires-clause-orders c =
+pub from_numbers-requires-clause-orders : goal.from_numbers-requires-clause-orders
+from_numbers-requires-clause-orders c =
     subst (λ numbers. LowerInOrder c.plan-plan.result.now numbers c.in_ok-orders.orders.items) c.deref-2.ensures.value c.in_ok-orders.ensures.orders
 
 -- the layer is of the plan and these numbers
 pub returns-clause-plan : goal.returns-clause-plan
 returns-clause-plan c =
     let made : ObjectSource = record { plan = c.plan-plan.result.now; numbers = c.in_ok-below_objects.below_objects.items } in
-    IfOk-weaker c.numbered.result (λ (l : ObjectSource). l ≡ made) (λ (l : ObjectSource). l.plan ≡ c.args.sound.now) (λ l e. ap (λ (k : ObjectSource). k.plan) e ∙ c.plan-plan.ensures.plan) c.numbered.ensures
+    IfOk-weaker c.from_numbers.result (λ (l : ObjectSource). l ≡ made) (λ (l : ObjectSource). l.plan ≡ c.args.sound.now) (λ l e. ap (λ (k : ObjectSource). k.plan) e ∙ c.plan-plan.ensures.plan) c.from_numbers.ensures
 
 pub returns-clause-apart : goal.returns-clause-apart
 returns-clause-apart c =
@@ -40,5 +40,5 @@ returns-clause-apart c =
     (subst (λ q. IsNodeRanking q lower.nodes.now) (sym is) c.in_ok-lower.ensures.nodes)
     (subst (λ q. IsForwardRanking q lower.arcs.now) (sym is) c.in_ok-lower.ensures.arcs)
     (subst (λ q. IsFaceRanking q lower.arcs.now lower.faces) (sym is) c.in_ok-lower.ensures.faces) c.in_ok-below_objects.ensures.ranked in
-    IfOk-weaker c.numbered.result (λ (l : ObjectSource). l ≡ made) (λ (l : ObjectSource). TellsApart c.args.sound.now (λ k. get_or l.numbers k 0))
-    (λ l e. subst (λ (m : ObjectSource). TellsApart c.args.sound.now (λ k. get_or m.numbers k 0)) (sym e) (subst (λ q. TellsApart q (λ k. get_or below_objects k 0)) is apart)) c.numbered.ensures
+    IfOk-weaker c.from_numbers.result (λ (l : ObjectSource). l ≡ made) (λ (l : ObjectSource). TellsApart c.args.sound.now (λ k. get_or l.numbers k 0))
+    (λ l e. subst (λ (m : ObjectSource). TellsApart c.args.sound.now (λ k. get_or m.numbers k 0)) (sym e) (subst (λ q. TellsApart q (λ k. get_or below_objects k 0)) is apart)) c.from_numbers.ensures

@@ -11,12 +11,12 @@ use Rattle.edi_rank.proofs.PlacedLinks.{sorted_empty}
 use Rattle.edi_rank.proofs.SameLaws.{record_agrees}
 use Rattle.edi_rank.proofs.link_layer.LinkLayerLayer.key.Goals as goal
 
-pub class_turned-class-requires-clause-place : goal.class_turned-class-requires-clause-place
-class_turned-class-requires-clause-place c = subst (λ (l : LinkSource). c.place-place.result < length l.plan.list) (sym c.self.view_is)
+pub class_after_reversals-class-requires-clause-place : goal.class_after_reversals-class-requires-clause-place
+class_after_reversals-class-requires-clause-place c = subst (λ (l : LinkSource). c.place-place.result < length l.plan.list) (sym c.self.view_is)
     (subst (IsPlace c.args.self.now.plan) (sym c.place-place.ensures) (place_there Lnk c.args.self.now.plan c.args.member c.requires))
 
-pub class_turned-class-requires-clause-class : goal.class_turned-class-requires-clause-class
-class_turned-class-requires-clause-class c =
+pub class_after_reversals-class-requires-clause-class : goal.class_after_reversals-class-requires-clause-class
+class_after_reversals-class-requires-clause-class c =
     let there : c.place-place.result < length c.self.inside.plan.now.list = subst (λ (l : LinkSource). c.place-place.result < length l.plan.list) (sym c.self.view_is)
     (subst (IsPlace c.args.self.now.plan) (sym c.place-place.ensures) (place_there Lnk c.args.self.now.plan c.args.member c.requires)) in
     (record_agrees c.self.inside.schema.now c.self.inside.plan.now.list c.self.invariant.1 c.place-place.result there).known
@@ -48,12 +48,12 @@ pub is_bare-requires : goal.is_bare-requires
 is_bare-requires c = subst (λ (l : LinkSource). c.place-place.result < length l.plan.list) (sym c.self.view_is)
     (subst (IsPlace c.args.self.now.plan) (sym c.place-place.ensures) (place_there Lnk c.args.self.now.plan c.args.member c.requires))
 
-pub whole-requires : goal.whole-requires
-whole-requires c =
+pub from_key-requires : goal.from_key-requires
+from_key-requires c =
     let r = record_at c.self.inside.plan.now c.place-place.result in
     c.is_bare.ensures ∙ (ap (λ b. b && is_empty r.extras) (sym (sorted_empty attribute_cmp r.attributes)) ∙ sym (ap has_neither c.in_ok-key.ensures))
 
 pub returns-in-Some : goal.returns-in-Some
 returns-in-Some c =
-    let key = c.in-Some.ensures c.class_turned-class.result in
+    let key = c.in-Some.ensures c.class_after_reversals-class.result in
     search (key, rules)

@@ -2,7 +2,7 @@ use Rattle.std.proofs.Common.{◌≡◌, ◌∙◌, MatchOption, IfOk, subst, ar
 use Rattle.edi_compare.specs.inner.Checking.{Matching, AreCarried, FailsBy}
 use Rattle.edi_compare.specs.Uncarried.{HasEntries}
 use Rattle.edi_compare.proofs.Stops.{found}
-use Rattle.edi_compare.proofs.checking.first_uncarried.Goals as goal
+use Rattle.edi_compare.proofs.checking.find_uncarried.Goals as goal
 
 pub returns-clause-none : goal.returns-clause-none
 returns-clause-none c =

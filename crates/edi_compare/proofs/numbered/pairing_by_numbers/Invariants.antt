@@ -2,7 +2,7 @@ use Rattle.std.proofs.Common.{◌≡◌, ◌<◌, ℕ, not, length, slice_index}
 use mathlib.Core.Bool.{beq}
 use Rattle.edi_rank.specs.Labelling.{turned_at}
 use Rattle.edi_compare.specs.Counterparts.{counterpart}
-use Rattle.edi_compare.proofs.numbered.paired.Given as goal
+use Rattle.edi_compare.proofs.numbered.pairing_by_numbers.Given as goal
 
 -- the records so far have their counterparts
 abbrev pub invariant-loop-place : goal.invariant-loop-place

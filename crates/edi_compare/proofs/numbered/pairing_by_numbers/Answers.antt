@@ -4,7 +4,7 @@ use mathlib.Core.Bool.{beq}
 use Rattle.edi_rank.specs.Labelling.{turned_at}
 use Rattle.edi_compare.specs.Counterparts.{counterpart}
 use Rattle.edi_compare.proofs.Pairs.{one_more_known}
-use Rattle.edi_compare.proofs.numbered.paired.Goals as goal
+use Rattle.edi_compare.proofs.numbered.pairing_by_numbers.Goals as goal
 
 pub loop-place-preserved : goal.loop-place-preserved
 loop-place-preserved c =

@@ -1,4 +1,4 @@
-use Rattle.edi_rank.proofs.object_layer.ObjectLayer.numbered.Goals as goal
+use Rattle.edi_rank.proofs.object_layer.ObjectLayer.from_numbers.Goals as goal
 
 pub invariant_of-result : goal.invariant_of-result
 invariant_of-result c = (

@@ -12,7 +12,7 @@ use Rattle.edi_rank.specs.Turned.{is_backward}
 use Rattle.edi_rank.proofs.Sided.{arc_is, least_equal}
 use Rattle.edi_rank.proofs.SameLaws.{map_alike}
 use Rattle.edi_rank.proofs.Unique.{all_places}
-use Rattle.edi_rank.proofs.face_layer.FaceLayer.with_turned.Goals as goal
+use Rattle.edi_rank.proofs.face_layer.FaceLayer.with_turned_arcs.Goals as goal
 
 pub invariant_of-result : goal.invariant_of-result
 invariant_of-result c =
