@@ -101,7 +101,6 @@ fn push_objects(
 ) -> Result<(), AllocError>
     requires { length faces.now ≡ length (places_of Pfe sound.now) }
 {
-    let plan = sound.plan();
-    let objects = ObjectLayer::of(alloc, plan, sound.node_ranks(), sound.arc_ranks(), faces)?;
+    let objects = ObjectLayer::of(alloc, sound, sound.node_ranks(), sound.arc_ranks(), faces)?;
     push_layer(alloc, &objects, text)
 }

@@ -83,7 +83,7 @@ fn keyed_objects<'a>(alloc: Global, plan: &'a Plan) -> Result<ObjectLayer<'a>, A
     let nodes = ranks_in_order(alloc, plan.places(Kind::Pno).len() as u32)?;
     let arcs = ranks_in_order(alloc, plan.places(Kind::Par).len() as u32)?;
     let faces = ranks_in_order(alloc, plan.places(Kind::Pfe).len() as u32)?;
-    ObjectLayer::of(alloc, plan, &nodes, &arcs, &faces)
+    ObjectLayer::of_plan(alloc, plan, &nodes, &arcs, &faces)
 }
 
 /// The place of the first object equal to an object, if it comes before that one.

@@ -20,7 +20,7 @@ use crate::sparse_list::SparseList;
 use edi_line::{BorrowedList, ListOfBorrowed, Sequence};
 use edi_plan::{Plan, PlanEnd, sorted_attributes};
 use edi_record::Kind;
-use edi_topo::{Layer, Ranks};
+use edi_topo::{Layer, Ranks, Sound};
 use std::alloc::{AllocError, Global};
 use std::marker::Model;
 
@@ -70,8 +70,26 @@ impl<'a> Model for ObjectLayer<'a> {
 }
 
 impl<'a> ObjectLayer<'a> {
-    /// The objects of a plan, be it sound or not, where its nodes, arcs and faces have these numbers.
+    /// The objects of a sound plan, where its nodes, arcs and faces have these numbers.
     pub fn of(
+        alloc: Global,
+        sound: &'a Sound,
+        nodes: &Ranks,
+        arcs: &Ranks,
+        faces: &Ranks,
+    ) -> Result<ObjectLayer<'a>, AllocError>
+        requires nodes { length nodes.now ≡ length (places_of Pno sound.now) }
+        requires arcs { length arcs.now ≡ length (places_of Par sound.now) }
+        requires faces { length faces.now ≡ length (places_of Pfe sound.now) }
+        ensures plan { IfOk result (λ layer. layer.plan ≡ sound.now) }
+        ensures keys { IfOk result (λ layer. map (object_key_at layer) (places_of Fea sound.now)
+            ≡ object_keys sound.now nodes.now arcs.now faces.now) }
+    {
+        ObjectLayer::of_plan(alloc, sound.plan(), nodes, arcs, faces)
+    }
+
+    /// The objects of a plan, be it sound or not, where its nodes, arcs and faces have these numbers.
+    pub fn of_plan(
         alloc: Global,
         plan: &'a Plan,
         nodes: &Ranks,

@@ -24,7 +24,7 @@ returns c =
     let nodes = c.in_ok-nodes.nodes in
     let arcs = c.in_ok-arcs.arcs in
     let faces = c.in_ok-faces.faces in
-    both c.of.result _ _ _ (λ layer plan keys. record {
+    both c.of_plan.result _ _ _ (λ layer plan keys. record {
       plan = plan;
       number = ranked p nodes arcs faces;
       apart = ranked_apart p nodes arcs faces
@@ -32,4 +32,4 @@ returns c =
           c.in_ok-arcs.ensures.each (omega (arith, c.in_ok-arcs.ensures.all, ap length c.places-2.ensures))
           c.in_ok-faces.ensures.each (omega (arith, c.in_ok-faces.ensures.all, ap length c.places-3.ensures));
       keys = keys;
-    }) c.of.ensures.plan c.of.ensures.keys
+    }) c.of_plan.ensures.plan c.of_plan.ensures.keys
