@@ -5,7 +5,7 @@ use Rattle.edi_compare.proofs.Compared.{verdict_on_files}
 use Rattle.edi_compare.proofs.comparing.compare_with.Goals as goal
 
 pub returns-clause-verdict : goal.returns-clause-verdict
-returns-clause-verdict c a p states untouched =
+returns-clause-verdict g c a p states untouched =
     let s = c.args.schema.now in
     let form = c.in-Ok.second.0 in
     let q = form.labelled.sound in
