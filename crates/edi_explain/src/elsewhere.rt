@@ -25,7 +25,7 @@ fn is_link(head: &Zone<'_>) -> bool
     matches!(head.value.as_slice(), b"LNK")
 }
 
-/// The first end of links, and the first that is of another lot or subset; and whether the record that is coming is a link.
+/// The first end of links, the first that is of another lot or subset, and whether the record that is coming is a link.
 #[derive(Drop)]
 struct LinkEnds {
     home: Option<Vec<u8>>,
@@ -174,7 +174,7 @@ fn is_named(pointer: Pointer<'_>, title: &RecordTitle) -> bool
     is_same(title.rty(), pointer.rty) && is_identified(title, pointer.rid)
 }
 
-/// A record that is sought by the pointer that names it, with the ends of the links that came, and what the record that is
+/// A record that is sought by the pointer that names it, the ends of the links that came, and what the record that is
 /// coming says of itself.
 #[derive(Drop)]
 struct SoughtName<'a> {

@@ -52,7 +52,7 @@ enum Place {
     Behind,
 }
 
-/// What is stored of the zones that have been handed on: where they leave off, and the value of the first CSE in front of
+/// What is stored of the zones that were handed on: where they leave off, and the value of the first CSE in front of
 /// the records.
 #[derive(Drop)]
 struct Handing {

@@ -10,7 +10,7 @@ use edi_line::codes::RID;
 use std::alloc::{AllocError, Global};
 use std::marker::Model;
 
-/// The line in which a record begins, its type as its RTY states it, and the value of its first RID, if it has one. It is
+/// The line in which a record begins, its type as RTY states it, and the value of its first RID, if it has one. It is
 /// used for one record after the other, so that it takes memory once.
 #[derive(Drop)]
 pub struct RecordTitle {

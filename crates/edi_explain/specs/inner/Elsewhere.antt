@@ -20,7 +20,7 @@ EndsAre ends (Some home) (Some stray) = AreStrayEnds ends home.items stray.items
 abbrev pub AreEndsWithStray : List (List ℕ) → LinkEnds → Type 0
 AreEndsWithStray ends s = EndsAre ends s.home s.stray
 
--- the ends are those of these records and of the zones of the next that have come, of which it is known whether it is a link
+-- the ends are those of these records and of the zones of the next that have come; it is known whether that is a link
 pub record HoldsLinkEnds (groups : List (List ZoneData)) (group : List ZoneData) (s : LinkEnds) : Type 0 where
   pub ends : AreEndsWithStray (link_ends groups ++ ends_of_record group) s
   pub is_link : IsOneRecord group → s.is_link ≡ is_typed (codes "LNK") group
@@ -32,7 +32,7 @@ sign_zone value = record { line = 0; code = []; nature = 0; format = 0; value = 
 abbrev pub name_signature : PointerText → List ZoneData
 name_signature p = sign_zone p.lot ∷ sign_zone p.subset ∷ sign_zone p.rty ∷ sign_zone p.rid ∷ []
 
--- A record is sought, and these groups and these zones of the next have come. Handing on says of what takes groups no more
+-- A record is sought; these groups and these zones of the next have come. Handing on says of what takes groups no more
 -- than what holds after those that came; so the pointer stands in front of them, as a group of its own.
 abbrev pub IsSoughtName : SoughtName → List (List ZoneData) → List ZoneData → Type 0
 IsSoughtName s [] group = ⊥

@@ -11,7 +11,7 @@ use Rattle.edi_line.specs.declared.groups.Place.TheVariants.{Front, Inside, Behi
 abbrev pub charset_in : List ZoneData → Option (List ℕ)
 charset_in zones = option_map (λ z. z.value) (charset_of zones)
 
--- what zones that were handed on make: where they leave off, the character set in front of the records, the records that
+-- what zones that were handed on make: where they end, the character set in front of the records, the records that
 -- are whole, and the zones of the one that is coming
 pub record HandedZones : Type 0 where
   pub place : Place

@@ -15,7 +15,7 @@ use Rattle.edi_line.specs.declared.reading.Reader.{Reader}
 abbrev pub behind : List ZoneData → Zoned → Zoned
 behind given z = record { done = given ++ z.done; open_zone = z.open_zone }
 
--- the lines in front of those that are left have come; of their zones these were handed on, and the reader holds the others
+-- the lines in front of those left have come; of their zones these were handed on, and the reader holds the others
 pub record IsAtLines (lines left : List Reading) (given : List ZoneData) (r : Reader) (h : Handing) : Type 0 where
   pub done : List Reading
   pub cut : lines ≡ done ++ left

@@ -69,7 +69,7 @@ the_one Repeated = None
 abbrev pub SharedName : Type 0
 SharedName = Arc Name Global
 
--- with those that are left these are all the texts, and where one has come it says what is stored; or there are two or more
+-- with those left these are all the texts, and where one has come it says what is stored; or there are two or more
 abbrev pub AreStored : {T : Type 0} → (List ℕ → T → Type 0) → Only T → List (List ℕ) → List (List ℕ) → Type 0
 AreStored Says Absent left all = all ≡ left
 AreStored Says (One said) left all = (text : List ℕ) × Says text said × (all ≡ text ∷ left)
