@@ -1,6 +1,6 @@
 //! What a record says of itself, taken from its zones one by one.
 
-ghost use Rattle.std.specs.Prelude.{◌≡◌, ◌++◌, ◌∷◌, [], List, OnOk, option_map, true};
+ghost use Rattle.std.specs.Prelude.{◌≡◌, ◌++◌, ◌∷◌, [], List, None, OnOk, option_map, true};
 ghost use Rattle.edi_line.specs.ZoneData.{ZoneData, entry};
 ghost use Rattle.edi_line.specs.Zones.{begins_group};
 ghost use Rattle.edi_record.specs.Titles.{IsTitleOf};
@@ -35,7 +35,9 @@ impl Model for RecordTitle {
 
 impl RecordTitle {
     /// Of no record.
-    pub fn new(alloc: Global) -> RecordTitle {
+    pub fn new(alloc: Global) -> RecordTitle
+        ensures { result ≡ record { line = 0; rty = []; rid = None } }
+    {
         RecordTitle {
             line: 0,
             rty: Vec::new(alloc),
