@@ -26,7 +26,7 @@ def seconds(words):
 def main():
     scd, dic, vec = sys.argv[1:4]
     count = int(sys.argv[4]) if len(sys.argv) > 4 else 1000
-    with tempfile.TemporaryDirectory() as folder:
+    with tempfile.TemporaryDirectory(dir="/dev/shm" if os.path.isdir("/dev/shm") else None) as folder:
         out = os.path.join(folder, "out.vec")
         single = sum(seconds(["canon", scd, dic, vec, out]) for _ in range(count))
         starts = sum(seconds(["--version"]) for _ in range(count))

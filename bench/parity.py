@@ -9,7 +9,8 @@
 A sort is one of those that SORTS names; without any, all are tried. Of each sheet: `check`, `canon` to a file, `compare` with its canonical
 file and with a sheet that differs, in turn, best of so many rounds (five). The answers and the canonical files must be equal. Printed: the
 ratio of the seconds of user and system time, and of the peak memory, which is some 12 MB at least; with --instructions the ratio of the
-instructions that callgrind counts, in one run of each.
+instructions that callgrind counts, in one run of each. The files lie in memory (/dev/shm) where there is such a folder, so that no disk is
+measured: `edicad canon` waits until a disk has stored its file, and other programs may not.
 
 --phases puts a fault at the end of the sheet, for each phase one that this phase alone finds: what the phases up to it take is what a run
 takes to its refusal. It compares the built program with what phases.json says, and fails where a phase takes a tenth more instructions or
@@ -26,6 +27,7 @@ import sys
 import tempfile
 
 HERE = os.path.dirname(os.path.abspath(__file__))
+ROOM = "/dev/shm" if os.path.isdir("/dev/shm") else None
 PROGRAM = os.path.join(HERE, "..", "crates", "edicad", "out", "edicad")
 MEASURE = "--measure"
 # lines whose value ends with a name: that of a record, or that of what a pointer points at
@@ -230,12 +232,12 @@ def main():
     given = words.parse_intermixed_args()
     if given.phases:
         given.records = min(given.records, 30_000)
-        with tempfile.TemporaryDirectory() as folder:
+        with tempfile.TemporaryDirectory(dir=ROOM) as folder:
             phases(os.path.abspath(given.other), given, folder)
         return
     what = "instructions" if given.instructions else "time (of the first), memory"
     print(f"{what}, {given.records} records\n\n| | size | `check` | `canon` | `compare`, same | different |\n|---|---|---|---|---|---|")
-    with tempfile.TemporaryDirectory() as folder:
+    with tempfile.TemporaryDirectory(dir=ROOM) as folder:
         for sort in given.sorts or SORTS:
             row(os.path.abspath(given.other), given, sort, folder)
 

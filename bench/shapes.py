@@ -161,6 +161,13 @@ def sets(count):
     yield node(b"n", 1) + one * count + zone(b"XYZSP", b"a")
 
 
+def lots(count):
+    """A link of so many ends, each with a lot of its own."""
+    yield node(b"n", 1) + record(b"LNK", b"l", b"REL;VOISIN_id")
+    for k in range(count):
+        yield zone(b"FTPCP", b"L%d;SeT1;PNO;n" % k)
+
+
 def renamed(count):
     """A file of so many classes, the last with the name of another behind ten times as many other zones."""
     for k in range(count):
@@ -191,6 +198,7 @@ CLASSES = {
 COMMANDS = ("hash", "explain", "draw", "diff", "compare --pairing", "verify")
 REFUSED = {
     "sets": (sets, 400_000),
+    "lots": (lots, 1_500_000),
 }
 
 
