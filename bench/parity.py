@@ -8,8 +8,8 @@
 
 A sort is one of those that SORTS names; without any, all are tried. Of each sheet: `check`, `canon` to a file, `compare` with its canonical
 file and with a sheet that differs, in turn, best of so many rounds (five). The answers and the canonical files must be equal. Printed: the
-ratio of the seconds of user and system time, and of the peak memory, which is some 12 MB at least; with --instructions the ratio of the
-instructions that callgrind counts, in one run of each. The files lie in memory (/dev/shm) where there is such a folder, so that no disk is
+ratio of the seconds of user and system time, of the peak memory, which is some 12 MB at least, and of the page faults; with --instructions
+the ratio of the instructions that callgrind counts, in one run of each. The files lie in memory (/dev/shm) where there is such a folder, so that no disk is
 measured: `edicad canon` waits until a disk has stored its file, and other programs may not.
 
 --phases puts a fault at the end of the sheet, for each phase one that this phase alone finds: what the phases up to it take is what a run
@@ -55,6 +55,9 @@ PHASES = [
 KEPT = os.path.join(HERE, "phases.json")
 # how much more a phase may take than was kept
 MORE = 1.1
+# A large copy is one instruction of many bytes on some processors (`rep movsb`), and callgrind counts each byte of it. So the C library is told
+# to copy by registers, as it does for small ones.
+BY_REGISTERS = ":".join(f"glibc.cpu.x86_rep_{it}sb_threshold={1 << 40}" for it in ("mov", "sto"))
 
 
 def long_name(name, width):
@@ -99,15 +102,15 @@ def files_of(sort, records):
 
 
 def measure(program, words):
-    """Prints the status of a run, what it prints, its seconds of processor time and its peak memory in bytes."""
+    """Prints the status of a run, what it prints, its seconds of processor time, its peak memory in bytes and its page faults."""
     process = subprocess.Popen([program, *words], stdout=subprocess.PIPE)
     text = process.stdout.read().decode("latin-1")
     _, status, usage = os.wait4(process.pid, 0)
-    print(json.dumps([os.waitstatus_to_exitcode(status), text, usage.ru_utime + usage.ru_stime, usage.ru_maxrss * 1024]))
+    print(json.dumps([os.waitstatus_to_exitcode(status), text, usage.ru_utime + usage.ru_stime, usage.ru_maxrss * 1024, usage.ru_minflt]))
 
 
 def timed(program, words):
-    """What a run prints, its seconds and its peak. A process of its own starts it, since a peak is at least that of what starts the run."""
+    """What a run prints, its seconds, its peak and its faults. A process of its own starts it, since a peak is at least that of what starts the run."""
     said = subprocess.run([sys.executable, __file__, MEASURE, program, *words], stdout=subprocess.PIPE, check=True).stdout
     status, *found = json.loads(said)
     if status > 1:
@@ -118,7 +121,8 @@ def timed(program, words):
 def profiled(program, words):
     """How many instructions and allocations a run takes, and what it prints."""
     with tempfile.NamedTemporaryFile() as report:
-        said = subprocess.run(["valgrind", "--tool=callgrind", f"--callgrind-out-file={report.name}", program, *words], capture_output=True, text=True, check=False)
+        said = subprocess.run(["valgrind", "--tool=callgrind", f"--callgrind-out-file={report.name}", program, *words], capture_output=True, text=True,
+                              env={**os.environ, "GLIBC_TUNABLES": BY_REGISTERS}, check=False)
         calls = allocations(report.read().decode(errors="replace").split("\n"))
     return int(re.search(r"Collected : (\d+)", said.stderr)[1]), calls, said.stdout
 
@@ -143,7 +147,7 @@ def counted(program, words):
 
 
 def ratios(other, rounds, words_of):
-    """The ratios of time and of memory of a command, and the first program's seconds."""
+    """The ratios of time, of memory and of page faults of a command, and the first program's seconds."""
     runs = [[], []]
     for _ in range(rounds):
         for k, program in enumerate((PROGRAM, other)):
@@ -151,8 +155,8 @@ def ratios(other, rounds, words_of):
     if runs[0][0][0] != runs[1][0][0]:
         sys.exit(f"the answers of {words_of(0)[0]} differ")
     seconds = [min(it[1] for it in run) for run in runs]
-    peaks = [max(it[2] for it in run) for run in runs]
-    return f"{seconds[0] / seconds[1]:.2f} ({seconds[0]:.2f} s), {peaks[0] / peaks[1]:.2f}"
+    peaks, faults = ([max(it[at] for it in run) for run in runs] for at in (2, 3))
+    return f"{seconds[0] / seconds[1]:.2f} ({seconds[0]:.2f} s), {peaks[0] / peaks[1]:.2f}, {faults[0] / faults[1]:.2f}"
 
 
 def row(other, given, sort, folder):
@@ -235,7 +239,7 @@ def main():
         with tempfile.TemporaryDirectory(dir=ROOM) as folder:
             phases(os.path.abspath(given.other), given, folder)
         return
-    what = "instructions" if given.instructions else "time (of the first), memory"
+    what = "instructions" if given.instructions else "time (of the first), memory, page faults"
     print(f"{what}, {given.records} records\n\n| | size | `check` | `canon` | `compare`, same | different |\n|---|---|---|---|---|---|")
     with tempfile.TemporaryDirectory(dir=ROOM) as folder:
         for sort in given.sorts or SORTS:
