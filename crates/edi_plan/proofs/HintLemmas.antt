@@ -1,7 +1,6 @@
 -- Records that are found by their names.
-use Rattle.std.proofs.Common.{◌≡◌, ℕ, zero, suc, add-one, ◌+◌, ◌++◌, ◌<◌, ◌≤◌, ◌⊎◌, inl, inr, Bool, true, false, not, List, [], ◌∷◌, length, drop, slice_index_or, Option, None, Some, is_some, if◌then◌else◌, slice_get, refl, sym, ap, ◌∙◌, subst, arith}
-use Rattle.std.proofs.lemmas.Bool.{cases_lt}
-use Rattle.std.proofs.lemmas.Option.{get_or_from_slice_get, slice_get_within}
+use Rattle.std.proofs.Common.{◌≡◌, ℕ, zero, suc, add-one, ◌+◌, ◌++◌, ◌<◌, ◌≤◌, Bool, true, false, not, List, [], ◌∷◌, length, drop, slice_index_or, Option, None, Some, is_some, if◌then◌else◌, slice_get, refl, sym, ap, ◌∙◌, subst, arith}
+use Rattle.std.proofs.lemmas.Option.{get_or_from_slice_get}
 use Rattle.edi_record.specs.Records.{is_link}
 use Rattle.edi_record.specs.Shapes.{kind_code, stated_at}
 use Rattle.edi_record.specs.declared.name.Name.{Name}
@@ -10,7 +9,7 @@ use Rattle.edi_record.specs.declared.record.Kind.TheVariants.{Pno, Par, Pfe, Fea
 use Rattle.edi_record.specs.declared.record.Record.{Record}
 use Rattle.edi_schema.proofs.Names.{same_name}
 use Rattle.edi_plan.specs.PlanOf.{own_name, place_named}
-use Rattle.edi_plan.specs.inner.Hints.{is_named, is_named_at, first_named, found, FindsByName, HasAll, HasTabled}
+use Rattle.edi_plan.specs.inner.Hints.{is_named, is_named_at, first_named, found, HasAll, HasTabled}
 use Rattle.edi_plan.specs.inner.LinkNames.{LinksDiffer}
 use Rattle.edi_plan.specs.inner.Names.{RepeatsNameAt, is_tabled}
 use Rattle.edi_plan.specs.inner.Targets.{HasNameAt}
@@ -108,20 +107,6 @@ module _ (list : List Record) (hints : NameHints) (differ : LinksDiffer list) (a
       go : (o : Option ℕ) → found list hints k rid ≡ o → found list hints k rid ≡ place_named list name
       go (Some place) e = e ∙ sym (only_named list name None place no_repeats refl (first_there list name _ place e))
       go None e = none e (place_named list name) refl
-
-pub all_found : (rise : Bool) (list : List Record) (hints : NameHints) (n : ℕ) → length list ≤ n → FindsByName n rise list hints → HasTabled rise list hints
-all_found rise list hints n past first k r at other = let within = slice_get_within list k r at in first k r (omega arith) at other
-
--- one record more is found
-pub first_more_there : (rise : Bool) (list : List Record) (hints : NameHints) (n : ℕ) → FindsByName n rise list hints
-    → ((r : Record) → slice_get list n ≡ Some r → is_tabled rise r.kind ≡ true → found list hints r.kind r.rid ≡ Some n) → FindsByName (n + 1) rise list hints
-first_more_there rise list hints n before one k q less at other = go (cases_lt k n)
-  where
-    go : (k < n) ⊎ (n ≤ k) → found list hints q.kind q.rid ≡ Some k
-    go (inl below) = before k q below at other
-    go (inr past) =
-        let e : k ≡ n = omega arith in
-        subst (λ (m : ℕ). found list hints q.kind q.rid ≡ Some m) (sym e) (one q (subst (λ (m : ℕ). slice_get list m ≡ Some q) e at) other)
 
 module _ (list : List Record) (n : ℕ) (r : Record) (kind : Kind) (rid : List ℕ)
     (there : slice_get list n ≡ Some r) (named_so : (let x : Name = record { rty = kind_code kind; rid = rid } in x) ≡ own_name (stated_at list n)) where

@@ -7,6 +7,7 @@ pub mod PlaceLemmas
 pub mod NameLemmas
 pub mod TargetLemmas
 pub mod HintLemmas
+pub mod SlotLemmas
 pub mod Resolved
 pub mod RuleLemmas
 pub mod NewTable

@@ -1,13 +1,14 @@
 //! Where a record of a name can stand, without a hash.
 
-ghost use Rattle.std.specs.Prelude.{◌≡◌, ℕ, ◌+◌, ◌%◌, ◌<◌, ◌≤◌, ◌↔◌, true, false, Some, length, IsTrue, IfOk, IfSome};
+ghost use Rattle.std.specs.Prelude.{◌≡◌, ℕ, ◌+◌, ◌%◌, ◌<◌, ◌≤◌, true, false, length, IfOk, IfSome};
 ghost use Rattle.std.specs.List.{fold};
 ghost use Rattle.edi_line.specs.Bytes.{most_records};
 ghost use Rattle.edi_record.specs.Records.{is_link};
-ghost use Rattle.edi_plan.specs.inner.Hints.{three_bytes as number_at, with_bits as bits_added, last_bytes as number_in, near_number, far_number, start_of, kind_slot as slot_of_kind, slots_at, first_named as first_in, found, HasAll, HasTabled};
+ghost use Rattle.edi_plan.specs.inner.Hints.{three_bytes as number_at, with_bits as bits_added, last_bytes as number_in, near_number, farther, start_of, kind_slot as slot_of_kind, slots_at, first_named as first_in, found, HasAll, HasTabled, KeepsPlaces, StandsAt, ArePassedAt, StandsUnder};
 ghost use Rattle.edi_plan.specs.inner.LinkNames.{LinksDiffer};
 ghost use Rattle.edi_plan.specs.inner.Names.{name_lent};
 ghost use Rattle.edi_plan.specs.PlanOf.{place_named};
+ghost use Rattle.edi_plan.specs.declared.name_hints.Putting.TheVariants.{Put, Full};
 
 use crate::name_slots::{FREE, NameHints, WINDOW};
 use crate::names::{RecordNameRef, count_tabled, has_name, is_tabled, name_at};
@@ -90,15 +91,6 @@ fn first_named(records: &SheetRecords, places: &[u32], name: &RecordNameRef<'_>)
     None
 }
 
-fn is_at(found: Option<u32>, place: u32) -> bool
-    ensures { IsTrue result ↔ (found ≡ Some place) }
-{
-    match found {
-        Some(other) => other == place,
-        None => false,
-    }
-}
-
 /// The number of a name by which its first slots are found.
 #[tactic(auto, unfolding(crate::specs::inner::Hints::near_number))]
 fn near_number(name: &RecordNameRef<'_>) -> u64
@@ -109,24 +101,34 @@ fn near_number(name: &RecordNameRef<'_>) -> u64
         .wrapping_add(kind_slot(name.kind))
 }
 
+/// What becomes of a place that is to go into the slots of a number.
+#[derive(Drop)]
+enum Putting {
+    /// It has a slot.
+    Put,
+    /// A record of its name stands in one.
+    Repeats,
+    /// In each stands a record of another name.
+    Full,
+}
+
 impl NameHints {
-    /// The number of a name by which its other slots are found, half of all slots further on. Where links are among the
-    /// names, those of two numbers may begin at one place; the others then lie where fewer names begin.
-    #[tactic(auto, unfolding(crate::specs::inner::Hints::far_number))]
-    fn far_number(&self, name: &RecordNameRef<'_>) -> u64
-        ensures { result ≡ far_number (length self.now.slots.items) name.now.kind name.now.rid.now }
+    /// The number by which a name's other slots are found, half of all slots further on than its own. Where links are
+    /// among the names, those of two numbers may begin at one place; the others then lie where fewer names begin.
+    #[tactic(auto, unfolding(crate::specs::inner::Hints::farther))]
+    fn farther(&self, number: u64) -> u64
+        ensures { result ≡ farther (length self.now.slots.items) number }
     {
-        near_number(name).wrapping_add(self.slots.len() as u64 / 2)
+        number.wrapping_add(self.slots.len() as u64 / 2)
     }
 
-    /// Where the slots of a number begin.
-    #[tactic(auto, unfolding(crate::specs::inner::Hints::start_of))]
+    /// Where the slots of a number begin: its last bits say it. A remainder would take several times as long.
+    #[tactic(auto, unfolding(crate::specs::inner::Hints::start_of), using(std::proofs::lemmas::Nat::and_le_r))]
     fn start(&self, number: u64) -> usize
         ensures start { result ≡ start_of (length self.now.slots.items) number }
         ensures within { result + 8 ≤ length self.now.slots.items }
     {
-        let starts = (self.slots.len() - WINDOW + 1) as u64;
-        (number % starts) as usize
+        (number & (self.slots.len() - WINDOW) as u64) as usize
     }
 
     /// The slots of a number.
@@ -141,65 +143,59 @@ impl NameHints {
     fn find(&self, records: &SheetRecords, name: &RecordNameRef<'_>) -> Option<u32>
         ensures { result ≡ found records.now self.now name.now.kind name.now.rid.now }
     {
-        let near = first_named(records, self.slots_at(near_number(name)), name);
+        let number = near_number(name);
+        let near = first_named(records, self.slots_at(number), name);
         if near.is_some() {
             return near;
         }
-        first_named(records, self.slots_at(self.far_number(name)), name)
+        first_named(records, self.slots_at(self.farther(number)), name)
     }
 
-    /// Puts a place into a free one of the slots of a number, if there is one.
-    fn put_at(&mut self, number: u64, place: u32) -> bool {
+    /// Puts a place into the first free one of the slots of a number, if no record of the name stands before it.
+    fn put_at(
+        &mut self,
+        records: &SheetRecords,
+        name: &RecordNameRef<'_>,
+        number: u64,
+        place: u32,
+    ) -> Putting
+        ensures kept { KeepsPlaces self.old.slots.items self.new.slots.items }
+        ensures put { result ≡ Put → StandsAt records.now (name_lent name.now) self.new.slots.items number place }
+        ensures full { result ≡ Full → ArePassedAt records.now (name_lent name.now) self.new.slots.items number }
+    {
         let start = self.start(number);
         for at in start..start + WINDOW {
-            if self.slots[at] == FREE {
+            let there = self.slots[at];
+            if there == FREE {
                 self.slots[at] = place;
-                return true;
+                return Putting::Put;
+            }
+            if has_name(records, there, name) {
+                return Putting::Repeats;
             }
         }
-        false
+        Putting::Full
     }
 
-    /// Puts a place into a free slot of a name, if it has one.
-    fn put(&mut self, name: &RecordNameRef<'_>, place: u32) -> bool {
-        self.put_at(near_number(name), place) || self.put_at(self.far_number(name), place)
-    }
-
-    /// The places of all records, but for links where these rise, each in a slot of its name; or nothing, if a name has no
-    /// slot left.
-    fn of_all(
-        alloc: Global,
-        links_rise: bool,
-        records: &SheetRecords,
-    ) -> Result<Option<NameHints>, AllocError>
-        requires { length records.now ≤ most_records }
+    /// Puts a place into the first free slot of a name, if no record of the name stands before it. Then the place is
+    /// found by the name, and stays so whatever is put into the slots that are still free.
+    fn put(&mut self, records: &SheetRecords, name: &RecordNameRef<'_>, place: u32) -> bool
+        ensures kept { KeepsPlaces self.old.slots.items self.new.slots.items }
+        ensures put { result ≡ true → StandsUnder records.now self.new.slots.items name.now.kind name.now.rid.now place }
     {
-        let mut hints = NameHints::with_room(alloc, count_tabled(links_rise, records))?;
-        for place in 0..records.len() {
-            let name = name_at(records, place);
-            if is_tabled(links_rise, name.kind) && !hints.put(&name, place as u32) {
-                return Ok(None);
+        let number = near_number(name);
+        match self.put_at(records, name, number, place) {
+            Putting::Put => true,
+            Putting::Repeats => false,
+            Putting::Full => {
+                let number = self.farther(number);
+                matches!(self.put_at(records, name, number, place), Putting::Put)
             }
         }
-        Ok(Some(hints))
     }
 
-    /// Whether each record is found by its name, but for links where these rise.
-    fn find_all(&self, links_rise: bool, records: &SheetRecords) -> bool
-        requires { length records.now ≤ most_records }
-        ensures { result ≡ true → HasTabled links_rise records.now self.now }
-    {
-        for place in 0..records.len() {
-            let name = name_at(records, place);
-            if is_tabled(links_rise, name.kind) && !is_at(self.find(records, &name), place as u32) {
-                return false;
-            }
-        }
-        true
-    }
-
-    /// The places of all records, but for links where these rise, if each of these is found by its name. Then no two of
-    /// them have one name.
+    /// The places of all records, but for links where these rise, each in a slot of its name; or nothing, if a name has
+    /// no slot left or two of these records have one name.
     pub(crate) fn among(
         alloc: Global,
         links_rise: bool,
@@ -208,10 +204,17 @@ impl NameHints {
         requires { length records.now ≤ most_records }
         ensures { IfOk result (λ hints. IfSome hints (HasTabled links_rise records.now)) }
     {
-        match NameHints::of_all(alloc, links_rise, records)? {
-            Some(hints) if hints.find_all(links_rise, records) => Ok(Some(hints)),
-            _ => Ok(None),
+        let mut hints = NameHints::with_room(alloc, count_tabled(links_rise, records))?;
+        for place in 0..records.len() {
+            let name = name_at(records, place);
+            if !is_tabled(links_rise, name.kind) {
+                continue;
+            }
+            if !hints.put(records, &name, place as u32) {
+                return Ok(None);
+            }
         }
+        Ok(Some(hints))
     }
 
     /// The place of the record of a name.

@@ -8,8 +8,8 @@ use std::alloc::{AllocError, Global};
 // How many slots are looked at for a name.
 pub(crate) const WINDOW: usize = 8;
 
-// How many slots there are for a name.
-const SLOTS: usize = 4;
+// How many slots there are for a name at least; there are nearly twice as many at most.
+const SLOTS: usize = 3;
 
 // What a free slot has: the place of no record.
 pub(crate) const FREE: u32 = u32::MAX;
@@ -24,11 +24,13 @@ pub(crate) struct NameHints {
 }
 
 impl NameHints {
-    /// Free slots for so many names.
+    /// Free slots for so many names. How many of them can be the first of eight is a power of two, so that the last bits
+    /// of a number say which is.
     pub(crate) fn with_room(alloc: Global, names: usize) -> Result<NameHints, AllocError>
         requires { names ≤ most_records }
     {
-        let slots = vec![in alloc; FREE; names * SLOTS + WINDOW]?;
+        let starts = (names * SLOTS).next_power_of_two();
+        let slots = vec![in alloc; FREE; starts - 1 + WINDOW]?;
         Ok(NameHints { slots })
     }
 }

@@ -1,5 +1,5 @@
 -- Where a record of a name can stand.
-use Rattle.std.specs.Prelude.{◌≡◌, ℕ, ◌+◌, ◌++◌, ◌-◌, ◌*◌, ◌/◌, ◌%◌, ◌^◌, ◌<◌, Bool, false, true, List, [], ◌∷◌, length, nat_lt, Option, None, Some, slice_get, slice_index, slice_range, if◌then◌else◌}
+use Rattle.std.specs.Prelude.{◌≡◌, ◌≢◌, ℕ, ◌+◌, ◌++◌, ◌-◌, ◌*◌, ◌/◌, ◌%◌, ◌^◌, ◌<◌, ◌≤◌, ◌⊎◌, Bool, false, true, List, [], ◌∷◌, length, bit_and, nat_lt, Option, None, Some, slice_get, slice_index, slice_range, if◌then◌else◌}
 use Rattle.std.specs.List.{fold}
 use Rattle.edi_record.specs.Records.{is_link}
 use Rattle.edi_record.specs.Shapes.{kind_code}
@@ -33,16 +33,20 @@ kind_slot Pfe = 4
 kind_slot Fea = 6
 kind_slot Lnk = 6
 
--- the numbers of a name, by which its slots are found: its own, and one that is half of so many slots greater
+-- a number that is half of so many slots greater
+unfoldable pub farther : ℕ → ℕ → ℕ
+farther slots number = (number + slots / 2) % 2 ^ 64
+
+-- the numbers of a name, by which its slots are found: its own, and a farther one
 unfoldable pub near_number : Kind → List ℕ → ℕ
 near_number kind rid = ((last_bytes rid * 8) % 2 ^ 64 + kind_slot kind) % 2 ^ 64
 
-unfoldable pub far_number : ℕ → Kind → List ℕ → ℕ
-far_number slots kind rid = (near_number kind rid + slots / 2) % 2 ^ 64
+abbrev pub far_number : ℕ → Kind → List ℕ → ℕ
+far_number slots kind rid = farther slots (near_number kind rid)
 
 -- where the slots of a number begin among so many
 unfoldable pub start_of : ℕ → ℕ → ℕ
-start_of slots number = number % (slots - 8 + 1)
+start_of slots number = bit_and number (slots - 8)
 
 -- the slots of a number
 abbrev pub slots_at : List ℕ → ℕ → List ℕ
@@ -68,17 +72,56 @@ first_named list name [] = None
 first_named list name (place ∷ places) =
     if is_named_at list name place then Some place else first_named list name places
 
+-- what a free slot has
+abbrev pub free_slot : ℕ
+free_slot = 4294967295
+
+-- a slot that has this place isn't free, and no record of this name stands there
+abbrev pub IsPassed : List Record → Name → ℕ → Type 0
+IsPassed list name place = (place ≢ free_slot) × (is_named_at list name place ≡ false)
+
+-- so it is with each slot from one up to another
+abbrev pub ArePassed : List Record → Name → List ℕ → ℕ → ℕ → Type 0
+ArePassed list name slots from to =
+    (at : ℕ) → from ≤ at → at < to → IsPassed list name (slice_index slots at)
+
+-- one of the eight slots from here on has this place, and those before it are passed
+pub record StandsFrom (list : List Record) (name : Name) (slots : List ℕ) (start place : ℕ) : Type 0 where
+  pub at : ℕ
+  pub past_start : start ≤ at
+  pub in_window : at < start + 8
+  pub within : at < length slots
+  pub here : slice_index slots at ≡ place
+  pub before : ArePassed list name slots start at
+
+-- and so it is with the slots of this number
+abbrev pub StandsAt : List Record → Name → List ℕ → ℕ → ℕ → Type 0
+StandsAt list name slots number place = StandsFrom list name slots (start_of (length slots) number) place
+
+-- all slots of this number are passed
+abbrev pub ArePassedAt : List Record → Name → List ℕ → ℕ → Type 0
+ArePassedAt list name slots number =
+    ArePassed list name slots (start_of (length slots) number) (start_of (length slots) number + 8)
+
+-- one of the slots of a name has this place, and those before it are passed
+abbrev pub StandsUnder : List Record → List ℕ → Kind → List ℕ → ℕ → Type 0
+StandsUnder list slots kind rid place =
+    let name : Name = record { rty = kind_code kind; rid = rid } in
+    StandsAt list name slots (near_number kind rid) place
+    ⊎ (ArePassedAt list name slots (near_number kind rid)
+    × StandsAt list name slots (far_number (length slots) kind rid) place)
+
+-- the new slots are as many, and what isn't free among the old stays as it is
+pub record KeepsPlaces (old new : List ℕ) : Type 0 where
+  pub as_long : length new ≡ length old
+  pub taken : (at : ℕ) → slice_index old at ≢ free_slot → slice_index new at ≡ slice_index old at
+
 -- what stands in the slots of a name under this name
 abbrev pub found : List Record → NameHints → Kind → List ℕ → Option ℕ
 found list hints kind rid =
     first_named list (record { rty = kind_code kind; rid = rid }) (slots_of hints.slots.items kind rid)
 
--- each of the first so many records is found by its name, but for links where these rise
-abbrev pub FindsByName : ℕ → Bool → List Record → NameHints → Type 0
-FindsByName n links_rise list hints = (k : ℕ) (r : Record) → k < n → slice_get list k ≡ Some r
-    → is_tabled links_rise r.kind ≡ true → found list hints r.kind r.rid ≡ Some k
-
--- and each record at all, but for these links
+-- each record is found by its name, but for links where these rise
 abbrev pub HasTabled : Bool → List Record → NameHints → Type 0
 HasTabled links_rise list hints = (k : ℕ) (r : Record) → slice_get list k ≡ Some r
     → is_tabled links_rise r.kind ≡ true → found list hints r.kind r.rid ≡ Some k
