@@ -1,6 +1,9 @@
 -- One record less of a list in two parts, of which the first is gone through from a place on.
 use Rattle.std.proofs.Common.{◌≡◌, ℕ, zero, suc, ◌+◌, ◌<◌, ◌≤◌, List, [], ◌∷◌, ◌++◌}
-use Rattle.std.proofs.Common.{length, drop, slice_get, Some, refl, sym, ap, ◌∙◌, arith}
+use Rattle.std.proofs.Common.{◌⊎◌, inl, inr, length, drop, slice_get, Some, refl, sym, ap, ◌∙◌, arith}
+use Rattle.std.proofs.lemmas.Bool.{cases_order}
+use Rattle.edi_record.specs.declared.sheet_rest.BlocksAhead.{BlocksAhead}
+use Rattle.edi_record.specs.inner.SheetRest.{all_ahead, IsBlockBefore}
 
 module _ {X : Type 0} where
   -- the first that is left
@@ -25,3 +28,12 @@ module _ {X : Type 0} where
   part_gone (x ∷ []) ys zero short none = refl
   part_gone (x ∷ y ∷ xs) ys zero short none = absurd (omega (arith, short))
   part_gone (x ∷ xs) ys (suc k) short none = part_gone xs ys k (omega (arith, short)) (λ less. none (omega (arith, less)))
+
+-- a block that others follow is full
+pub block_full : (n : ℕ) (ahead : BlocksAhead) → IsBlockBefore n ahead → 0 < length (all_ahead ahead) → n ≡ 256
+block_full n ahead is more = go (cases_order n 256)
+  where
+    go : (n ≡ 256) ⊎ ((n < 256) ⊎ (256 < n)) → n ≡ 256
+    go (inl same) = same
+    go (inr (inl less)) = let none = ap length (is.last less) in absurd (omega (arith, none, more))
+    go (inr (inr greater)) = absurd (omega (arith, is.short, greater))

@@ -37,6 +37,7 @@ pub mod KindOrder
 pub mod FlatRecords
 pub mod InBlocks
 pub mod GoneThrough
+pub mod Remade
 pub mod StatedAt
 pub mod GroupRules
 pub mod RecordsBroken

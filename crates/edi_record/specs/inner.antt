@@ -11,6 +11,7 @@ pub mod PartLists
 pub mod FlatRecords
 pub mod BlockLists
 pub mod SheetRest
+pub mod Remaking
 pub mod GroupRules
 pub mod AllBroken
 pub mod SharedParts

@@ -1,11 +1,13 @@
 //! Records in blocks of as many records each, but for the last.
 
 ghost use Rattle.std.specs.Prelude.{◌≡◌, ◌<◌, ◌%◌, ◌^◌, ◌∷◌, ◌++◌, [], length, slice_get, Some, IfOk, OnOk, OnErr};
+ghost use Rattle.std.specs.Vec.{vec_len, vec_capacity};
 ghost use Rattle.edi_record.specs.AnyRecords.{any_record, record_lent, Parts};
 ghost use Rattle.edi_record.specs.inner.BlockLists.{blocks_joined, AreBlocks};
 
 use crate::any_record::AnyRecordRef;
 use crate::block::Block;
+use crate::flat_lists::push_behind;
 use crate::record::{Extra, Point};
 use std::alloc::{AllocError, Global};
 use std::marker::Model;
@@ -36,6 +38,18 @@ impl<H, A, E> Model for Blocks<H, A, E> {
     ghost invariant = { λ blocks. AreBlocks blocks.closed.items blocks.last };
 }
 
+/// Makes room for one more closed block, where so many can be counted.
+pub(crate) fn room_for_block<B>(closed: &mut Vec<B>) -> Result<(), AllocError>
+    ensures same { closed.new.items ≡ closed.old.items }
+    ensures few { OnOk result (length closed.old.items < 4294967295) }
+    ensures room { OnOk result (vec_len closed.new < vec_capacity closed.new) }
+{
+    if closed.len() >= MOST_BLOCKS {
+        return Err(AllocError);
+    }
+    closed.reserve(1)
+}
+
 /// Puts the records of the last block into a closed one, if it is full.
 #[tactic(auto, unfolding(crate::specs::inner::BlockLists::blocks_joined))]
 fn close_if_full<H: Drop, A: Drop, E: Drop>(
@@ -51,12 +65,9 @@ fn close_if_full<H: Drop, A: Drop, E: Drop>(
     if last.len() < BLOCK {
         return Ok(());
     }
-    if closed.len() >= MOST_BLOCKS {
-        return Err(AllocError);
-    }
-    closed.reserve(1)?;
+    room_for_block(closed)?;
     let block = last.close(alloc)?;
-    let _never_fails = closed.push(block);
+    push_behind(closed, block);
     Ok(())
 }
 

@@ -33,6 +33,20 @@ pub(crate) fn make_room<T>(list: &mut Vec<T>, more: usize) -> Result<u32, AllocE
     place_of(list.len() + more)
 }
 
+/// Makes room for so many more elements; and before the first, for as many as are to come. Where the elements will end is
+/// the answer.
+pub(crate) fn room_for<T>(list: &mut Vec<T>, more: usize, all: usize) -> Result<u32, AllocError>
+    ensures items { list.new.items ≡ list.old.items }
+    ensures room { OnOk result (vec_len list.new + more ≤ vec_capacity list.new) }
+    ensures stop { IfOk result (λ stop. stop ≡ length list.old.items + more) }
+{
+    if list.is_empty() {
+        list.reserve(all)?;
+    }
+    list.reserve(more)?;
+    place_of(list.len() + more)
+}
+
 /// Moves elements behind those of a list that has room for them.
 pub(crate) fn move_behind<T: Drop>(list: &mut Vec<T>, items: &mut Vec<T>)
     requires { vec_len list.old + vec_len items.old ≤ vec_capacity list.old }

@@ -30,6 +30,8 @@ pub mod reading;
 pub mod record;
 mod record_parts;
 pub mod record_ref;
+mod remade_block;
+pub mod remaking;
 mod role;
 mod shared_parts;
 pub mod sheet;
@@ -58,6 +60,7 @@ pub use reading::{
 };
 pub use record::{Attribute, Extra, Kind, Point, Record, Value};
 pub use record_ref::RecordRef;
+pub use remaking::Remaking;
 pub use sheet::Sheet;
 pub use sheet_records::SheetRecords;
 pub use sheet_rest::SheetRest;

@@ -10,6 +10,7 @@ use crate::identifier::Identifier;
 use crate::record::{Attribute, Kind};
 use crate::record_parts::{RecordHead, RecordParts};
 use crate::record_ref::RecordRef;
+use crate::remaking::Remaking;
 use crate::sheet_rest::SheetRest;
 use std::alloc::{AllocError, Global};
 use std::marker::Model;
@@ -109,6 +110,14 @@ impl SheetRecords {
         ensures { result.now ≡ (stated_at self.now place).ends }
     {
         self.blocks.record(place).ends
+    }
+
+    /// The records, on their way to others with heads, attributes and ends of another kind.
+    pub fn into_remaking<H: Drop, A: Drop, E: Drop>(self) -> Remaking<H, A, E>
+        ensures { result ≡ record { made = []; left = self } }
+    {
+        let SheetRecords { blocks } = self;
+        Remaking::new(blocks)
     }
 
     /// The records, to be gone through once and let go on the way.

@@ -1,8 +1,8 @@
 //! The records of a sheet, as they are gone through.
 
-ghost use Rattle.std.specs.Prelude.{◌≡◌, ◌++◌, [], Some, drop, slice_get, MatchOption};
+ghost use Rattle.std.specs.Prelude.{◌≡◌, ◌++◌, [], Some, drop, length, slice_get, MatchOption};
 ghost use Rattle.edi_record.specs.inner.RecordParts.{records_with_parts};
-ghost use Rattle.edi_record.specs.inner.SheetRest.{all_ahead, AreAhead};
+ghost use Rattle.edi_record.specs.inner.SheetRest.{all_ahead, AreAhead, IsBlockBefore};
 
 use crate::block::Block;
 use crate::blocks::Blocks;
@@ -35,11 +35,11 @@ impl Drop for BlocksAhead {
 impl BlocksAhead {
     /// The next block; or one of no records, if there is none.
     #[tactic(auto, unfolding(crate::specs::inner::BlockLists::blocks_joined))]
-    fn next(&mut self) -> Block<RecordHead, Attribute, End>
+    pub(crate) fn next(&mut self) -> Block<RecordHead, Attribute, End>
         requires { AreAhead self.old }
         ensures records { result ++ all_ahead self.new ≡ all_ahead self.old }
         ensures ahead { AreAhead self.new }
-        ensures none { result ≡ [] → all_ahead self.new ≡ [] }
+        ensures block { IsBlockBefore (length result) self.new }
     {
         match self.closed.next() {
             Some(block) => block,

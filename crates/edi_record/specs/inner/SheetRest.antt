@@ -1,6 +1,6 @@
 -- The records of a sheet that are left, as they are gone through: those of a block from a place on, and those of the
 -- blocks ahead.
-use Rattle.std.specs.Prelude.{◌≡◌, ℕ, ◌≤◌, List, [], length}
+use Rattle.std.specs.Prelude.{◌≡◌, ℕ, ◌<◌, ◌≤◌, List, [], length}
 use Rattle.std.specs.List.{AllByRecursion}
 use Rattle.std.specs.Vec.Iter.{into_iter_items}
 use Rattle.edi_record.specs.AnyRecords.{AnyRecord}
@@ -14,9 +14,15 @@ use Rattle.edi_record.specs.inner.BlockLists.{blocks_joined, IsFull}
 abbrev pub all_ahead : BlocksAhead → List (AnyRecord RecordHead Attribute EndData)
 all_ahead ahead = blocks_joined (into_iter_items ahead.closed) ahead.last
 
--- all blocks ahead but the last are full
-abbrev pub AreAhead : BlocksAhead → Type 0
-AreAhead ahead = AllByRecursion IsFull (into_iter_items ahead.closed)
+-- all blocks ahead but the last are full, and the last has no more records than they
+pub record AreAhead (ahead : BlocksAhead) : Type 0 where
+  pub full : AllByRecursion IsFull (into_iter_items ahead.closed)
+  pub short : length ahead.last ≤ 256
+
+-- a block of so many records comes before them: a full one, or the last of all
+pub record IsBlockBefore (n : ℕ) (ahead : BlocksAhead) : Type 0 where
+  pub short : n ≤ 256
+  pub last : n < 256 → all_ahead ahead ≡ []
 
 -- the place is that of a record of the block, unless no records are left
 pub record IsUnderWay (ahead : BlocksAhead) (block : List (AnyRecord RecordHead Attribute EndData)) (place : ℕ) : Type 0 where
