@@ -23,7 +23,8 @@ part_taken xs from to is =
     let left : to - from ≤ length (drop from xs) = omega (arith, is.rises, is.ends, length-drop from xs) in
     let long : length (slice_range xs from to) ≡ to - from = length-take-le (to - from) (drop from xs) left in
     let sum : to ≡ length (take from xs) + (to - from) = omega (arith, front, is.rises) in (
-      (λ i. take (sum i) (sym (take-append-drop from xs) i)) ∙ take-append-add (take from xs) (drop from xs) (to - from),
+      (λ i. take (sum i) (sym (take-append-drop from xs) i))
+          ∙ take-append-add (take from xs) (drop from xs) (to - from),
       omega (arith, sum, long),
     )
 

@@ -10,7 +10,7 @@ pub mod Shapes
 pub mod PartLists
 pub mod FlatRecords
 pub mod BlockLists
-pub mod SheetRest
+pub mod BlocksAhead
 pub mod Remaking
 pub mod GroupRules
 pub mod AllBroken

@@ -7,7 +7,7 @@ ghost use Rattle.edi_record.specs.inner.FlatRecords.{no_stops, stops_before, rec
 ghost use Rattle.edi_record.specs.inner.PartLists.{held};
 
 use crate::any_record::AnyRecordRef;
-use crate::flat_lists::{append, copy_behind, exact_room, hand_over, push_behind};
+use crate::flat_lists::{append, exact_room, hand_over, push_behind};
 use crate::part_lists::{PartLists, Stops};
 use crate::record::{Extra, Point};
 use std::alloc::{AllocError, Global};
@@ -88,16 +88,6 @@ impl<H: Drop, A: Drop, E: Drop> Block<H, A, E> {
         }
     }
 
-    /// No records, with room for the heads of so many.
-    pub(crate) fn with_capacity(alloc: Global, records: usize) -> Result<Block<H, A, E>, AllocError>
-        ensures { IfOk result (λ block. block ≡ []) }
-    {
-        Ok(Block {
-            heads: Vec::with_capacity(alloc, records)?,
-            lists: PartLists::new(alloc),
-        })
-    }
-
     /// The heads of the records, and the lists of what they have.
     pub(crate) fn into_parts(self) -> (Vec<Head<H>>, PartLists<A, E>)
         ensures same { records_from (held result.1) no_stops result.0.items ≡ self }
@@ -126,32 +116,6 @@ impl<H: Drop, A: Drop, E: Drop> Block<H, A, E> {
             .make_room(points.len(), ends.len(), attributes.len(), extras.len())?;
         push_behind(&mut self.heads, Head { head, stops });
         append(&mut self.lists.points, points);
-        self.lists.append(ends, attributes, extras);
-        Ok(())
-    }
-
-    /// Adds a record whose points are copied. Its other parts leave the lists that they are in.
-    pub(crate) fn push_beside(
-        &mut self,
-        head: H,
-        points: &[Point],
-        ends: &mut Vec<E>,
-        attributes: &mut Vec<A>,
-        extras: &mut Vec<Extra>,
-    ) -> Result<(), AllocError>
-        ensures added { OnOk result (self.new ≡ self.old
-            ++ any_record head points.now ends.old.items attributes.old.items extras.old.items ∷ []) }
-        ensures no_ends { OnOk result (ends.new.items ≡ []) }
-        ensures no_attributes { OnOk result (attributes.new.items ≡ []) }
-        ensures no_extras { OnOk result (extras.new.items ≡ []) }
-        ensures unchanged { OnErr result (self.new ≡ self.old) }
-    {
-        self.heads.reserve(1)?;
-        let stops = self
-            .lists
-            .make_room(points.len(), ends.len(), attributes.len(), extras.len())?;
-        copy_behind(&mut self.lists.points, points)?;
-        push_behind(&mut self.heads, Head { head, stops });
         self.lists.append(ends, attributes, extras);
         Ok(())
     }

@@ -1,6 +1,6 @@
 //! Records in blocks of as many records each, but for the last.
 
-ghost use Rattle.std.specs.Prelude.{◌≡◌, ◌<◌, ◌%◌, ◌^◌, ◌∷◌, ◌++◌, [], length, slice_get, Some, IfOk, OnOk, OnErr};
+ghost use Rattle.std.specs.Prelude.{◌≡◌, ◌<◌, ◌%◌, ◌^◌, ◌∷◌, ◌++◌, [], length, slice_get, Some, OnOk, OnErr};
 ghost use Rattle.std.specs.Vec.{vec_len, vec_capacity};
 ghost use Rattle.edi_record.specs.AnyRecords.{any_record, record_lent, Parts};
 ghost use Rattle.edi_record.specs.inner.BlockLists.{blocks_joined, AreBlocks};
@@ -84,18 +84,6 @@ impl<H: Drop, A: Drop, E: Drop> Blocks<H, A, E> {
         }
     }
 
-    /// No records, with room for so many.
-    #[tactic(auto, unfolding(crate::specs::inner::BlockLists::blocks_joined))]
-    pub fn with_capacity(alloc: Global, records: usize) -> Result<Blocks<H, A, E>, AllocError>
-        ensures { IfOk result (λ blocks. blocks ≡ []) }
-    {
-        Ok(Blocks {
-            alloc,
-            closed: Vec::with_capacity(alloc, records / BLOCK)?,
-            last: Block::with_capacity(alloc, records.min(BLOCK))?,
-        })
-    }
-
     /// Adds a record. Its parts leave the lists that they are in.
     #[tactic(auto, unfolding(crate::specs::inner::BlockLists::blocks_joined))]
     pub(crate) fn push(
@@ -112,28 +100,6 @@ impl<H: Drop, A: Drop, E: Drop> Blocks<H, A, E> {
     {
         close_if_full(self.alloc, &mut self.closed, &mut self.last)?;
         self.last.push(head, points, ends, attributes, extras)
-    }
-
-    /// Adds a record whose points are copied. Its other parts leave the lists that they are in.
-    #[tactic(auto, unfolding(crate::specs::inner::BlockLists::blocks_joined))]
-    pub fn push_beside(
-        &mut self,
-        head: H,
-        points: &[Point],
-        ends: &mut Vec<E>,
-        attributes: &mut Vec<A>,
-        extras: &mut Vec<Extra>,
-    ) -> Result<(), AllocError>
-        ensures added { OnOk result (self.new ≡ self.old
-            ++ any_record head points.now ends.old.items attributes.old.items extras.old.items ∷ []) }
-        ensures no_ends { OnOk result (ends.new.items ≡ []) }
-        ensures no_attributes { OnOk result (attributes.new.items ≡ []) }
-        ensures no_extras { OnOk result (extras.new.items ≡ []) }
-        ensures unchanged { OnErr result (self.new ≡ self.old) }
-    {
-        close_if_full(self.alloc, &mut self.closed, &mut self.last)?;
-        self.last
-            .push_beside(head, points, ends, attributes, extras)
     }
 
     /// How many records there are.

@@ -16,8 +16,8 @@ use crate::record_parts::RecordHead;
 use std::alloc::{AllocError, Global};
 use std::marker::Model;
 
-/// The records of the block, and heads, attributes and ends for the first of them. Their points and their extra zones stay
-/// where they are. Contracts see the records that are made, and those that are left.
+/// The records of the block, and heads, attributes and ends for the first of them. Their points and their extra zones
+/// stay where they are. Contracts see the records that are made, and those that are left.
 pub(crate) struct RemadeBlock<H, A, E> {
     old_heads: Vec<Head<RecordHead>>,
     old_lists: PartLists<Attribute, End>,
@@ -128,7 +128,7 @@ impl<H: Drop, A: Drop, E: Drop> RemadeBlock<H, A, E> {
         Ok(())
     }
 
-    /// The records that are made. The points and the extra zones are those of the block, which has nothing else of it.
+    /// The records that are made. Their points and their extra zones are those of the block; the rest of it is let go.
     pub(crate) fn into_made(self) -> Block<H, A, E>
         ensures { result ≡ self.made }
     {

@@ -7,23 +7,23 @@ ghost use Rattle.edi_record.specs.declared.record.Record.{Record};
 ghost use Rattle.edi_record.specs.inner.BlockLists.{blocks_joined};
 ghost use Rattle.edi_record.specs.inner.RecordParts.{records_with_parts};
 ghost use Rattle.edi_record.specs.inner.Remaking.{AreReady, AreUnderWay};
-ghost use Rattle.edi_record.specs.inner.SheetRest.{all_ahead};
+ghost use Rattle.edi_record.specs.inner.BlocksAhead.{all_ahead};
 
 use crate::block::Block;
 use crate::blocks::{Blocks, room_for_block};
+use crate::blocks_ahead::BlocksAhead;
 use crate::end::End;
 use crate::flat_lists::push_behind;
 use crate::record::Attribute;
 use crate::record_parts::RecordHead;
 use crate::record_ref::RecordRef;
 use crate::remade_block::RemadeBlock;
-use crate::sheet_rest::BlocksAhead;
 use std::alloc::{AllocError, Global};
 use std::marker::Model;
 use std::mem;
 
-/// Records that are made of those of a sheet, in file order, and the records of the sheet that are left. A record has the
-/// points and the extra zones of the sheet's. Contracts see the two lists alone.
+/// Records that are made of those of a sheet, in file order, and the records of the sheet that are left. A record that is
+/// made has the points and the extra zones of the sheet's. Contracts see the two lists alone.
 pub struct Remaking<H, A, E> {
     alloc: Global,
     closed: Vec<Block<H, A, E>>,
@@ -52,7 +52,7 @@ impl<H, A, E> Model for Remaking<H, A, E> {
     ghost use Rattle.edi_record.specs.inner.BlockLists.{blocks_joined};
     ghost use Rattle.edi_record.specs.inner.RecordParts.{records_with_parts};
     ghost use Rattle.edi_record.specs.inner.Remaking.{AreReady};
-    ghost use Rattle.edi_record.specs.inner.SheetRest.{all_ahead};
+    ghost use Rattle.edi_record.specs.inner.BlocksAhead.{all_ahead};
 
     ghost view = { λ r. record {
       made = blocks_joined r.closed.items r.opened.made;
@@ -117,8 +117,8 @@ impl<H: Drop, A: Drop, E: Drop> Remaking<H, A, E> {
         }
     }
 
-    /// Makes the first of the records that are left anew, with this head. Its attributes and its ends leave the lists that
-    /// they are in, and what the sheet's record had of these is let go with its block.
+    /// Makes the first of the records that are left anew, with this head. Its attributes and its ends leave the lists
+    /// that they are in, and what the sheet's record had of these is let go with its block.
     pub fn put(
         &mut self,
         head: H,

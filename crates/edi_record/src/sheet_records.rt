@@ -11,7 +11,6 @@ use crate::record::{Attribute, Kind};
 use crate::record_parts::{RecordHead, RecordParts};
 use crate::record_ref::RecordRef;
 use crate::remaking::Remaking;
-use crate::sheet_rest::SheetRest;
 use std::alloc::{AllocError, Global};
 use std::marker::Model;
 
@@ -118,13 +117,5 @@ impl SheetRecords {
     {
         let SheetRecords { blocks } = self;
         Remaking::new(blocks)
-    }
-
-    /// The records, to be gone through once and let go on the way.
-    pub fn into_rest(self) -> SheetRest
-        ensures { result ≡ self }
-    {
-        let SheetRecords { blocks } = self;
-        SheetRest::new(blocks)
     }
 }

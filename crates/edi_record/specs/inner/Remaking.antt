@@ -7,10 +7,10 @@ use Rattle.edi_record.specs.declared.block.Head.{Head}
 use Rattle.edi_record.specs.declared.record.Attribute.{Attribute}
 use Rattle.edi_record.specs.LinkEnds.{EndData}
 use Rattle.edi_record.specs.declared.record_parts.RecordHead.{RecordHead}
-use Rattle.edi_record.specs.declared.sheet_rest.BlocksAhead.{BlocksAhead}
+use Rattle.edi_record.specs.declared.blocks_ahead.BlocksAhead.{BlocksAhead}
 use Rattle.edi_record.specs.inner.BlockLists.{IsFull}
 use Rattle.edi_record.specs.inner.FlatRecords.{no_stops, stops_before, FillLists}
-use Rattle.edi_record.specs.inner.SheetRest.{all_ahead, AreAhead, IsBlockBefore}
+use Rattle.edi_record.specs.inner.BlocksAhead.{all_ahead, AreAhead, IsBlockBefore}
 
 module _ {G B F : Type 0} (old_heads : List (Head G)) (old : Parts B F) where
   -- these attributes and ends, with the points and the extra zones of so many of the old records

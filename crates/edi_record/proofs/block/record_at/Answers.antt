@@ -11,7 +11,8 @@ record-requires g c =
     let all = held c.args.lists.now in
     let h = c.index-head.result.now in
     subst (λ (s : Stops). ArePartsTo all s h.stops) (sym c.begin.ensures)
-    (parts_there all no_stops c.args.heads.now.items c.args.place h c.requires.there c.index-head.ensures c.requires.fill)
+    (parts_there all no_stops c.args.heads.now.items c.args.place h c.requires.there c.index-head.ensures
+    c.requires.fill)
 
 pub returns : goal.returns
 returns g c =

@@ -12,7 +12,10 @@ returns g c =
     let left = ap (λ v. v.left) c.self.view_is in (
       λ (is : IsTrue (nat_eq c.len.result c.len-2.result)).
           let same : c.len.result ≡ c.len-2.result = grind (arith, nat_tests) in
-          sym left ∙ none_left b.old_heads.items (held b.old_lists) (length b.heads.items) (omega (arith, same, made, all)),
+          sym left
+          ∙ none_left b.old_heads.items (held b.old_lists) (length b.heads.items) (omega (arith, same, made, all)),
       λ none. eq-eqb c.len.result c.len-2.result
-          (made ∙ (all_made b.old_heads.items (held b.old_lists) (length b.heads.items) c.self.invariant.within (left ∙ none) ∙ sym all)),
+          (made
+          ∙ (all_made b.old_heads.items (held b.old_lists) (length b.heads.items) c.self.invariant.within (left ∙ none)
+          ∙ sym all)),
     )

@@ -9,7 +9,8 @@ pub index-requires : goal.index-requires
 index-requires g c =
     let b = c.self.inside in
     let left = left_long b.old_heads.items (held b.old_lists) (length b.heads.items) in
-    omega (arith, left, c.requires, ap (λ v. length v.left) c.self.view_is, c.len-place.ensures, b.heads.ok.0, b.old_heads.ok.0)
+    let same = ap (λ v. length v.left) c.self.view_is in
+    omega (arith, left, c.requires, same, c.len-place.ensures, b.heads.ok.0, b.old_heads.ok.0)
 
 -- where the record's parts end
 abbrev to : (g : _) (c : goal.After-move_behind-2 g) → Stops
@@ -26,10 +27,11 @@ is_next : (g : _) (c : goal.After-move_behind-2 g)
 is_next g c =
     let b = c.self.inside in
     let left = left_long b.old_heads.items (held b.old_lists) (length b.heads.items) in
+    let same = ap (λ v. length v.left) c.self.view_is in
     record {
       made = c.self.invariant;
       place_is = omega (arith, c.len-place.ensures, b.heads.ok.0);
-      there = omega (arith, left, c.requires, ap (λ v. length v.left) c.self.view_is, c.len-place.ensures, b.heads.ok.0);
+      there = omega (arith, left, c.requires, same, c.len-place.ensures, b.heads.ok.0);
       found = c.index.ensures;
     }
 
@@ -42,7 +44,8 @@ is_put g c =
     let head : Head _ = record { head = c.args.head; stops = to g c } in
     record {
       heads_are = c.push_behind.ensures ∙ ap (λ l. l ++ head ∷ []) c.in_ok-room_for.ensures.items;
-      attributes_are = c.move_behind-2.ensures.moved ∙ ap (λ l. l ++ c.args.attributes.now.items) c.in_ok-room_for-3.ensures.items;
+      attributes_are = c.move_behind-2.ensures.moved
+          ∙ ap (λ l. l ++ c.args.attributes.now.items) c.in_ok-room_for-3.ensures.items;
       ends_are = c.move_behind.ensures.moved ∙ ap (λ l. l ++ c.args.ends.now.items) c.in_ok-room_for-2.ensures.items;
       points_end = refl;
       ends_end = omega (arith, c.in_ok-room_for-2.ensures.stop, c.len-2.ensures, c.args.ends.now.ok.0);
@@ -60,5 +63,6 @@ returns-clause-put g c =
       r,
       ap (λ v. v.left) (sym c.self.view_is) ∙ left_put _ _ _ _ _ _ _ _ _ (to g c) _ _ _ _ (is_next g c) (is_put g c),
       (made_put _ _ _ _ _ _ _ _ _ (to g c) _ _ _ _ (is_next g c) (is_put g c)).1
-          ∙ ap (λ es. es ++ made_of c.args.head c.args.attributes.now.items c.args.ends.now.items r ∷ []) (ap (λ v. v.made) c.self.view_is),
+          ∙ ap (λ v. v.made ++ made_of c.args.head c.args.attributes.now.items c.args.ends.now.items r ∷ [])
+          c.self.view_is,
     )

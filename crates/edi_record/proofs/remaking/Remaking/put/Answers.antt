@@ -2,7 +2,7 @@ use Rattle.std.proofs.Common.{◌∙◌, ◌++◌, ◌∷◌, [], ap, sym}
 use Rattle.edi_record.specs.AnyRecords.{any_record}
 use Rattle.edi_record.specs.inner.BlockLists.{blocks_joined}
 use Rattle.edi_record.specs.inner.RecordParts.{record_with_parts, records_with_parts}
-use Rattle.edi_record.specs.inner.SheetRest.{all_ahead}
+use Rattle.edi_record.specs.inner.BlocksAhead.{all_ahead}
 use Rattle.edi_record.proofs.InBlocks.{joined_more}
 use Rattle.edi_record.proofs.remaking.Remaking.put.Goals as goal
 

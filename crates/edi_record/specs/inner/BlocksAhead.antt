@@ -1,5 +1,4 @@
--- The records of a sheet that are left, as they are gone through: those of a block from a place on, and those of the
--- blocks ahead.
+-- The blocks of a sheet that are ahead, while its records are gone through.
 use Rattle.std.specs.Prelude.{◌≡◌, ℕ, ◌<◌, ◌≤◌, List, [], length}
 use Rattle.std.specs.List.{AllByRecursion}
 use Rattle.std.specs.Vec.Iter.{into_iter_items}
@@ -7,7 +6,7 @@ use Rattle.edi_record.specs.AnyRecords.{AnyRecord}
 use Rattle.edi_record.specs.declared.record.Attribute.{Attribute}
 use Rattle.edi_record.specs.LinkEnds.{EndData}
 use Rattle.edi_record.specs.declared.record_parts.RecordHead.{RecordHead}
-use Rattle.edi_record.specs.declared.sheet_rest.BlocksAhead.{BlocksAhead}
+use Rattle.edi_record.specs.declared.blocks_ahead.BlocksAhead.{BlocksAhead}
 use Rattle.edi_record.specs.inner.BlockLists.{blocks_joined, IsFull}
 
 -- the records of the blocks ahead, in their order
@@ -23,9 +22,3 @@ pub record AreAhead (ahead : BlocksAhead) : Type 0 where
 pub record IsBlockBefore (n : ℕ) (ahead : BlocksAhead) : Type 0 where
   pub short : n ≤ 256
   pub last : n < 256 → all_ahead ahead ≡ []
-
--- the place is that of a record of the block, unless no records are left
-pub record IsUnderWay (ahead : BlocksAhead) (block : List (AnyRecord RecordHead Attribute EndData)) (place : ℕ) : Type 0 where
-  pub blocks : AreAhead ahead
-  pub within : place ≤ length block
-  pub none : length block ≤ place → all_ahead ahead ≡ []
