@@ -14,7 +14,8 @@ use Rattle.edi_plan.specs.inner.Resolving.{AreGiven, IsPlanned}
 use Rattle.edi_plan.specs.inner.SideTable.{HaveEntries}
 use Rattle.edi_plan.specs.inner.Targets.{IsTargetIfAny, AreTargets}
 use Rattle.edi_plan.specs.declared.record.PlanEnd.{PlanEnd}
-use Rattle.edi_plan.specs.declared.record.PlanRecord.{PlanRecord}
+use Rattle.edi_plan.specs.declared.planned.PlannedRecord.{PlannedRecord}
+use Rattle.edi_plan.specs.inner.Planned.{planned_with}
 use Rattle.edi_schema.specs.declared.by_role.ByRole.{ByRole}
 use Rattle.edi_plan.specs.declared.targets.Target.{Target}
 
@@ -71,8 +72,9 @@ ends_stated list (e ∷ es) (None ∷ ts) (p ∷ ps) all given = absurd given.0
 ends_stated list (e ∷ es) (Some t ∷ ts) (p ∷ ps) all given =
     (record { target = all.0.named ∙ ap Some (sym given.0.0); sns = given.0.1 }, ends_stated list es ts ps all.1 given.1)
 
-pub record_stated : (s : Classes) (list : List Record) (r : Record) (ts : List (Option Target)) (p : PlanRecord) → AllZip (IsTargetIfAny list) r.ends ts → IsPlanned s ts r p → StatesPlanRecord s list r p
-record_stated s list r ts p all d = record { kind = d.kind; class = d.class; role = d.role; points = d.points; attributes = d.attributes; extras = d.extras; ends = ends_stated list r.ends ts p.ends all d.ends }
+pub record_stated : (s : Classes) (list : List Record) (r : Record) (ts : List (Option Target)) (p : PlannedRecord) → AllZip (IsTargetIfAny list) r.ends ts → IsPlanned s ts r p
+    → StatesPlanRecord s list r (planned_with p r)
+record_stated s list r ts p all d = record { kind = d.kind; class = d.class; role = d.role; points = refl; attributes = d.attributes; extras = refl; ends = ends_stated list r.ends ts p.ends.items all d.ends }
 
 -- where the next record stands
 
@@ -100,8 +102,12 @@ left_there list rest place r is first = go list place (ap (λ rs. slice_get rs 0
 pub none_left : (list rest : List Record) (place : ℕ) → rest ≡ drop place list → place ≤ length list → rest ≡ [] → place ≡ length list
 none_left list rest place is within none = let long = sym (length-drop place list) ∙ ap length (sym is ∙ none) in omega (arith, within, long)
 
-pub one_left_less : (list rest new : List Record) (place : ℕ) → rest ≡ drop place list → new ≡ drop 1 rest → new ≡ drop (place + 1) list
-one_left_less list rest new place is next = next ∙ (ap (drop 1) is ∙ drop-drop 1 place list)
+pub one_left_less : (list rest new : List Record) (q : Record) (place : ℕ) → rest ≡ drop place list → rest ≡ q ∷ new → new ≡ drop (place + 1) list
+one_left_less list rest new q place is next = ap (drop 1) (sym next ∙ is) ∙ drop-drop 1 place list
+
+-- the first that is left
+pub first_is : (rest new : List Record) (q r : Record) → rest ≡ q ∷ new → slice_get rest 0 ≡ Some r → q ≡ r
+first_is rest new q r next first = same_some (ap (λ rs. slice_get rs 0) (sym next) ∙ first)
 
 -- whether the next record repeats a name
 

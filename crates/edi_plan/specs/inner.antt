@@ -1,4 +1,5 @@
 pub mod RecordLists
+pub mod Planned
 pub mod Done
 pub mod LinkNames
 pub mod Names

@@ -1,14 +1,15 @@
 //! The records of a plan, and one on its way there.
 
-ghost use Rattle.std.specs.Prelude.{◌≡◌, ◌∷◌, ◌++◌, [], OnOk};
+ghost use Rattle.std.specs.Prelude.{◌≡◌, ◌<◌, ◌∷◌, ◌++◌, [], length, OnOk};
+ghost use Rattle.edi_record.specs.declared.record.Record.{Record};
 ghost use Rattle.edi_plan.specs.inner.RecordLists.{plan_records_of};
+ghost use Rattle.edi_plan.specs.inner.Planned.{planned_with};
 
 use crate::record::{PlanAttribute, PlanEnd};
 use crate::spare_parts::SpareParts;
-use edi_record::{Blocks, Extra, Kind, Point};
+use edi_record::{Blocks, Kind, Remaking};
 use edi_schema::{ClassRef, Role};
 use std::alloc::AllocError;
-use std::marker::Model;
 
 /// A record of a plan but for its parts.
 #[derive(Clone, Copy)]
@@ -21,54 +22,30 @@ pub(crate) struct PlanHead {
 /// The records of a plan, by their places.
 pub(crate) type RecordList = Blocks<PlanHead, PlanAttribute, PlanEnd>;
 
-/// A record of a plan, whose points are still those of the sheet. Contracts see the record.
+/// The records of a plan and those of the sheet that are left, while the plan is made.
+pub(crate) type PlanRemaking = Remaking<PlanHead, PlanAttribute, PlanEnd>;
+
+/// A record of a plan but for its points and its extra zones, which are those of the sheet's record.
 #[derive(Drop)]
-pub(crate) struct PlannedRecord<'a> {
-    pub(crate) kind: Kind,
-    pub(crate) class: ClassRef,
-    pub(crate) role: Role,
-    pub(crate) points: &'a [Point],
+pub(crate) struct PlannedRecord {
+    pub(crate) head: PlanHead,
     pub(crate) attributes: Vec<PlanAttribute>,
-    pub(crate) extras: Vec<Extra>,
     pub(crate) ends: Vec<PlanEnd>,
 }
 
-impl<'a> Model for PlannedRecord<'a> {
-    ghost use Rattle.edi_plan.specs.declared.record.PlanRecord.{PlanRecord};
-
-    ghost Value = { PlanRecord };
-
-    ghost view = { λ r. record {
-      kind = r.kind;
-      class = r.class;
-      role = r.role;
-      points = r.points.now;
-      attributes = r.attributes.items;
-      extras = r.extras.items;
-      ends = r.ends.items;
-    } };
-}
-
-impl<'a> PlannedRecord<'a> {
-    /// Puts the record behind those of a list. Its lists, emptied, are the answer.
-    pub(crate) fn put_behind(self, list: &mut RecordList) -> Result<SpareParts, AllocError>
-        ensures { OnOk result (plan_records_of list.new ≡ plan_records_of list.old ++ self.entry ∷ []) }
+impl PlannedRecord {
+    /// Makes this of the first record that is left. Its lists, emptied, are the answer.
+    pub(crate) fn put(self, remaking: &mut PlanRemaking) -> Result<SpareParts, AllocError>
+        requires { 0 < length remaking.old.left }
+        ensures { OnOk result ((r : Record) × (remaking.old.left ≡ r ∷ remaking.new.left)
+            × (plan_records_of remaking.new.made ≡ plan_records_of remaking.old.made ++ planned_with self r ∷ [])) }
     {
         let PlannedRecord {
-            kind,
-            class,
-            role,
-            points,
+            head,
             mut attributes,
-            mut extras,
             mut ends,
         } = self;
-        let head = PlanHead { kind, class, role };
-        list.push_beside(head, points, &mut ends, &mut attributes, &mut extras)?;
-        Ok(SpareParts {
-            attributes,
-            extras,
-            ends,
-        })
+        remaking.put(head, &mut attributes, &mut ends)?;
+        Ok(SpareParts { attributes, ends })
     }
 }

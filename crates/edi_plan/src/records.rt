@@ -19,14 +19,14 @@ use crate::arc_sides::ArcSides;
 use crate::earlier_links::earlier_link;
 use crate::fault::{RefFault, Unplanned, Unresolved};
 use crate::link_findings::link_role;
-use crate::planned::{PlannedRecord, RecordList};
+use crate::planned::{PlanHead, PlannedRecord, RecordList};
 use crate::record::{PlanAttribute, PlanEnd};
 use crate::references::{References, Subset};
 use crate::sides::{note_link, without_links};
 use crate::spare_parts::SpareParts;
 use crate::targets::Target;
 use edi_line::{Num, Text};
-use edi_record::{Attribute, End, Extra, Name, RecordRef, SheetRecords, Value};
+use edi_record::{Attribute, End, Name, RecordRef, SheetRecords, Value};
 use edi_schema::{ClassFinder, ClassRef, Schema};
 use std::alloc::{AllocError, Global};
 
@@ -154,17 +154,6 @@ fn plan_ends(
     Ok(done)
 }
 
-/// The extra zones, with memory of their own, in a list that is empty.
-fn plan_extras(extras: &[Extra], mut done: Vec<Extra>) -> Result<Vec<Extra>, AllocError>
-    requires { done.items ≡ [] }
-    ensures { IfOk result (λ done. done.items ≡ extras.now) }
-{
-    for extra in extras {
-        done.push(extra.copy()?)?;
-    }
-    Ok(done)
-}
-
 /// Whether an end has another lot or subset.
 #[tactic(auto, unfolding(crate::specs::inner::Resolving::is_elsewhere))]
 fn is_other(subset: &Subset, end: &End) -> bool
@@ -196,16 +185,16 @@ pub(crate) fn leaves_subset(subset: &Option<Subset>, ends: &[End]) -> bool
 
 /// The record in the plan, whose class is known if the schema has it; or the least of the rules 302 to 307 that the
 /// record breaks. What a link joins is noted.
-fn plan_record<'a>(
+fn plan_record(
     schema: &Schema,
     subset: &Option<Subset>,
     targets: &[Option<Target>],
     sides: &mut [ArcSides],
     class: Option<ClassRef>,
     classes: &mut ClassFinder<'_>,
-    record: &RecordRef<'a>,
+    record: &RecordRef<'_>,
     spare: SpareParts,
-) -> Result<PlannedRecord<'a>, Unresolved>
+) -> Result<PlannedRecord, Unresolved>
     requires schema { classes.old ≡ schema.now }
     requires class { class ≡ place_of schema.now record.now.scp }
     requires within { IfSome class (λ class. class < length schema.now) }
@@ -232,13 +221,10 @@ fn plan_record<'a>(
     if record.kind().is_link() {
         note_link(sides, role, targets)?;
     }
+    let kind = record.kind();
     Ok(PlannedRecord {
-        kind: record.kind(),
-        class,
-        role,
-        points: record.points(),
+        head: PlanHead { kind, class, role },
         attributes,
-        extras: plan_extras(record.extras(), spare.extras)?,
         ends,
     })
 }
@@ -275,7 +261,7 @@ pub(crate) struct Planned {
 }
 
 /// The records in the plan; or the first that breaks a rule of references, and the least rule there, of 307 with the
-/// earlier link. The records are let go on the way.
+/// earlier link. What the plan doesn't have of the records is let go on the way.
 pub(crate) fn plan_records(
     alloc: Global,
     schema: &Schema,
@@ -289,15 +275,14 @@ pub(crate) fn plan_records(
     ensures least { IfErr result (λ u. IsRecordRefusal (BreaksReferenceRule schema.now records) u.fault) }
     ensures earlier { IfErr result (λ u. IsEarlierLinkIfAny schema.now records u.fault u.earlier) }
 {
-    let mut list = RecordList::with_capacity(alloc, records.len())?;
     let mut sides = without_links(alloc, records.len())?;
     let mut targets = references.targets.as_slice();
     let mut classes = ClassFinder::new(schema);
     let mut attribute_classes = ClassFinder::new(schema);
     let mut spare = SpareParts::new(alloc);
-    let mut rest = records.into_rest();
+    let mut remaking = records.into_remaking();
     let mut place = 0;
-    while let Some(record) = rest.first() {
+    while let Some(record) = remaking.first() {
         if is_place(references.repeat, place) {
             return Err(broken_rule(301, place, None));
         }
@@ -313,16 +298,19 @@ pub(crate) fn plan_records(
             &record,
             spare,
         ) {
-            Ok(planned) => spare = planned.put_behind(&mut list)?,
+            Ok(planned) => spare = planned.put(&mut remaking)?,
             Err(Unresolved::Memory(error)) => return Err(Unplanned::from(error)),
             Err(Unresolved::Broken(rule)) => {
-                let earlier = earlier_link(rule, &list, link_role(schema, &record), own);
+                let role = link_role(schema, &record);
+                let earlier = earlier_link(rule, &remaking.into_made(), role, own);
                 return Err(broken_rule(rule, place, earlier));
             }
         }
         targets = later;
-        rest.advance();
         place += 1;
     }
-    Ok(Planned { list, sides })
+    Ok(Planned {
+        list: remaking.into_made(),
+        sides,
+    })
 }

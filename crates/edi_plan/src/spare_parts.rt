@@ -3,17 +3,14 @@
 ghost use Rattle.std.specs.Prelude.{◌≡◌, []};
 
 use crate::record::{PlanAttribute, PlanEnd};
-use edi_record::Extra;
 use std::alloc::Global;
 
 /// Empty lists, which may have room, for the parts of the next record.
 #[derive(Drop)]
 pub(crate) struct SpareParts {
     pub(crate) attributes: Vec<PlanAttribute>,
-    pub(crate) extras: Vec<Extra>,
     pub(crate) ends: Vec<PlanEnd>,
     pub ghost no_attributes: { attributes.items ≡ [] },
-    pub ghost no_extras: { extras.items ≡ [] },
     pub ghost no_ends: { ends.items ≡ [] },
 }
 
@@ -22,7 +19,6 @@ impl SpareParts {
     pub(crate) fn new(alloc: Global) -> SpareParts {
         SpareParts {
             attributes: Vec::new(alloc),
-            extras: Vec::new(alloc),
             ends: Vec::new(alloc),
         }
     }

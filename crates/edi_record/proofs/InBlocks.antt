@@ -75,3 +75,15 @@ module _ {X : Type 0} where
             let long = full_long closed are.full in
             get_right (flat_map (λ xs. xs) closed) last place (omega (arith, later, long))
             ∙ (ap (λ n. slice_get last (place - n)) long ∙ ap (slice_get last) at_last)
+
+  -- a record more in the last block is one more of all
+  pub joined_more : (closed : List (List X)) (last : List X) (x : X)
+      → blocks_joined closed (last ++ x ∷ []) ≡ blocks_joined closed last ++ x ∷ []
+  unfolding blocks_joined
+  joined_more closed last x = sym (append_assoc (flat_map (λ xs. xs) closed) last (x ∷ []))
+
+  -- a full block more leaves all full
+  pub one_more_full : (closed : List (List X)) (b : List X) → AllByRecursion IsFull closed → IsFull b
+      → AllByRecursion IsFull (closed ++ b ∷ [])
+  one_more_full [] b all full = (full, tt)
+  one_more_full (c ∷ cs) b all full = (all.0, one_more_full cs b all.1 full)

@@ -36,7 +36,8 @@ pub mod ValueOrder
 pub mod KindOrder
 pub mod FlatRecords
 pub mod InBlocks
-pub mod GoneThrough
+pub mod BlocksAhead
+pub mod Remade
 pub mod StatedAt
 pub mod GroupRules
 pub mod RecordsBroken

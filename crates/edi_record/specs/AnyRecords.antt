@@ -25,3 +25,8 @@ module _ {H A E : Type 0} where
   -- the record that is borrowed
   abbrev pub record_lent : AnyRecordRef H A E → AnyRecord H A E
   record_lent r = any_record r.head.now r.points.now r.ends.now r.attributes.now r.extras.now
+
+-- records on their way to others: those that are made already, and those that are left
+pub record PartlyMade (H A E R : Type 0) : Type 0 where
+  pub made : List (AnyRecord H A E)
+  pub left : List R

@@ -10,7 +10,8 @@ pub mod Shapes
 pub mod PartLists
 pub mod FlatRecords
 pub mod BlockLists
-pub mod SheetRest
+pub mod BlocksAhead
+pub mod Remaking
 pub mod GroupRules
 pub mod AllBroken
 pub mod SharedParts

@@ -1,12 +1,13 @@
 //! Some records in flat lists: their points lie in one list, and so do their ends, their attributes and their extra
 //! zones.
 
-ghost use Rattle.std.specs.Prelude.{◌≡◌, ◌<◌, ◌∷◌, ◌++◌, [], length, slice_get, Some, IfOk, OnOk, OnErr};
+ghost use Rattle.std.specs.Prelude.{◌≡◌, ◌<◌, ◌≤◌, ◌∷◌, ◌++◌, [], length, slice_get, Some, IfOk, OnOk, OnErr};
 ghost use Rattle.edi_record.specs.AnyRecords.{any_record, record_lent, Parts};
-ghost use Rattle.edi_record.specs.inner.FlatRecords.{no_stops, stops_before};
+ghost use Rattle.edi_record.specs.inner.FlatRecords.{no_stops, stops_before, records_from, FillLists};
+ghost use Rattle.edi_record.specs.inner.PartLists.{held};
 
 use crate::any_record::AnyRecordRef;
-use crate::flat_lists::{append, copy_behind, exact_room, hand_over, push_behind};
+use crate::flat_lists::{append, exact_room, hand_over, push_behind};
 use crate::part_lists::{PartLists, Stops};
 use crate::record::{Extra, Point};
 use std::alloc::{AllocError, Global};
@@ -28,8 +29,8 @@ impl<H: Drop> Drop for Head<H> {
 
 /// The records by their places, with the lists of what they have. Contracts see the list of records alone.
 pub(crate) struct Block<H, A, E> {
-    heads: Vec<Head<H>>,
-    lists: PartLists<A, E>,
+    pub(crate) heads: Vec<Head<H>>,
+    pub(crate) lists: PartLists<A, E>,
 }
 
 impl<H: Drop, A: Drop, E: Drop> Drop for Block<H, A, E> {
@@ -51,15 +52,29 @@ impl<H, A, E> Model for Block<H, A, E> {
     ghost invariant = { λ block. FillLists (held block.lists) no_stops block.heads.items };
 }
 
-/// Where the parts of the record at a place begin.
-fn begin<H>(heads: &Vec<Head<H>>, place: usize) -> Stops
-    requires { place < length heads.now.items }
+/// Where the parts of the record at a place begin, or those of all end.
+pub(crate) fn begin<H>(heads: &Vec<Head<H>>, place: usize) -> Stops
+    requires { place ≤ length heads.now.items }
     ensures { result ≡ stops_before place no_stops heads.now.items }
 {
     if place > 0 {
         return heads[place - 1].stops;
     }
     Stops::NONE
+}
+
+/// The record at a place.
+pub(crate) fn record_at<'a, H, A, E>(
+    heads: &'a Vec<Head<H>>,
+    lists: &'a PartLists<A, E>,
+    place: usize,
+) -> AnyRecordRef<'a, H, A, E>
+    requires there { place < length heads.now.items }
+    requires fill { FillLists (held lists.now) no_stops heads.now.items }
+    ensures { slice_get (records_from (held lists.now) no_stops heads.now.items) place ≡ Some (record_lent result) }
+{
+    let head = &heads[place];
+    lists.record(&head.head, begin(heads, place), head.stops)
 }
 
 impl<H: Drop, A: Drop, E: Drop> Block<H, A, E> {
@@ -73,14 +88,13 @@ impl<H: Drop, A: Drop, E: Drop> Block<H, A, E> {
         }
     }
 
-    /// No records, with room for the heads of so many.
-    pub(crate) fn with_capacity(alloc: Global, records: usize) -> Result<Block<H, A, E>, AllocError>
-        ensures { IfOk result (λ block. block ≡ []) }
+    /// The heads of the records, and the lists of what they have.
+    pub(crate) fn into_parts(self) -> (Vec<Head<H>>, PartLists<A, E>)
+        ensures same { records_from (held result.1) no_stops result.0.items ≡ self }
+        ensures fill { FillLists (held result.1) no_stops result.0.items }
     {
-        Ok(Block {
-            heads: Vec::with_capacity(alloc, records)?,
-            lists: PartLists::new(alloc),
-        })
+        let Block { heads, lists } = self;
+        (heads, lists)
     }
 
     /// Adds a record. Its parts leave the lists that they are in.
@@ -102,32 +116,6 @@ impl<H: Drop, A: Drop, E: Drop> Block<H, A, E> {
             .make_room(points.len(), ends.len(), attributes.len(), extras.len())?;
         push_behind(&mut self.heads, Head { head, stops });
         append(&mut self.lists.points, points);
-        self.lists.append(ends, attributes, extras);
-        Ok(())
-    }
-
-    /// Adds a record whose points are copied. Its other parts leave the lists that they are in.
-    pub(crate) fn push_beside(
-        &mut self,
-        head: H,
-        points: &[Point],
-        ends: &mut Vec<E>,
-        attributes: &mut Vec<A>,
-        extras: &mut Vec<Extra>,
-    ) -> Result<(), AllocError>
-        ensures added { OnOk result (self.new ≡ self.old
-            ++ any_record head points.now ends.old.items attributes.old.items extras.old.items ∷ []) }
-        ensures no_ends { OnOk result (ends.new.items ≡ []) }
-        ensures no_attributes { OnOk result (attributes.new.items ≡ []) }
-        ensures no_extras { OnOk result (extras.new.items ≡ []) }
-        ensures unchanged { OnErr result (self.new ≡ self.old) }
-    {
-        self.heads.reserve(1)?;
-        let stops = self
-            .lists
-            .make_room(points.len(), ends.len(), attributes.len(), extras.len())?;
-        copy_behind(&mut self.lists.points, points)?;
-        push_behind(&mut self.heads, Head { head, stops });
         self.lists.append(ends, attributes, extras);
         Ok(())
     }
@@ -166,8 +154,6 @@ impl<H: Drop, A: Drop, E: Drop> Block<H, A, E> {
         requires { place < length self.now }
         ensures { slice_get self.now place ≡ Some (record_lent result) }
     {
-        let head = &self.heads[place];
-        self.lists
-            .record(&head.head, begin(&self.heads, place), head.stops)
+        record_at(&self.heads, &self.lists, place)
     }
 }

@@ -1,11 +1,13 @@
 //! Records in blocks of as many records each, but for the last.
 
-ghost use Rattle.std.specs.Prelude.{◌≡◌, ◌<◌, ◌%◌, ◌^◌, ◌∷◌, ◌++◌, [], length, slice_get, Some, IfOk, OnOk, OnErr};
+ghost use Rattle.std.specs.Prelude.{◌≡◌, ◌<◌, ◌%◌, ◌^◌, ◌∷◌, ◌++◌, [], length, slice_get, Some, OnOk, OnErr};
+ghost use Rattle.std.specs.Vec.{vec_len, vec_capacity};
 ghost use Rattle.edi_record.specs.AnyRecords.{any_record, record_lent, Parts};
 ghost use Rattle.edi_record.specs.inner.BlockLists.{blocks_joined, AreBlocks};
 
 use crate::any_record::AnyRecordRef;
 use crate::block::Block;
+use crate::flat_lists::push_behind;
 use crate::record::{Extra, Point};
 use std::alloc::{AllocError, Global};
 use std::marker::Model;
@@ -36,6 +38,18 @@ impl<H, A, E> Model for Blocks<H, A, E> {
     ghost invariant = { λ blocks. AreBlocks blocks.closed.items blocks.last };
 }
 
+/// Makes room for one more closed block, where so many can be counted.
+pub(crate) fn room_for_block<B>(closed: &mut Vec<B>) -> Result<(), AllocError>
+    ensures same { closed.new.items ≡ closed.old.items }
+    ensures few { OnOk result (length closed.old.items < 4294967295) }
+    ensures room { OnOk result (vec_len closed.new < vec_capacity closed.new) }
+{
+    if closed.len() >= MOST_BLOCKS {
+        return Err(AllocError);
+    }
+    closed.reserve(1)
+}
+
 /// Puts the records of the last block into a closed one, if it is full.
 #[tactic(auto, unfolding(crate::specs::inner::BlockLists::blocks_joined))]
 fn close_if_full<H: Drop, A: Drop, E: Drop>(
@@ -51,12 +65,9 @@ fn close_if_full<H: Drop, A: Drop, E: Drop>(
     if last.len() < BLOCK {
         return Ok(());
     }
-    if closed.len() >= MOST_BLOCKS {
-        return Err(AllocError);
-    }
-    closed.reserve(1)?;
+    room_for_block(closed)?;
     let block = last.close(alloc)?;
-    let _never_fails = closed.push(block);
+    push_behind(closed, block);
     Ok(())
 }
 
@@ -71,18 +82,6 @@ impl<H: Drop, A: Drop, E: Drop> Blocks<H, A, E> {
             closed: Vec::new(alloc),
             last: Block::new(alloc),
         }
-    }
-
-    /// No records, with room for so many.
-    #[tactic(auto, unfolding(crate::specs::inner::BlockLists::blocks_joined))]
-    pub fn with_capacity(alloc: Global, records: usize) -> Result<Blocks<H, A, E>, AllocError>
-        ensures { IfOk result (λ blocks. blocks ≡ []) }
-    {
-        Ok(Blocks {
-            alloc,
-            closed: Vec::with_capacity(alloc, records / BLOCK)?,
-            last: Block::with_capacity(alloc, records.min(BLOCK))?,
-        })
     }
 
     /// Adds a record. Its parts leave the lists that they are in.
@@ -101,28 +100,6 @@ impl<H: Drop, A: Drop, E: Drop> Blocks<H, A, E> {
     {
         close_if_full(self.alloc, &mut self.closed, &mut self.last)?;
         self.last.push(head, points, ends, attributes, extras)
-    }
-
-    /// Adds a record whose points are copied. Its other parts leave the lists that they are in.
-    #[tactic(auto, unfolding(crate::specs::inner::BlockLists::blocks_joined))]
-    pub fn push_beside(
-        &mut self,
-        head: H,
-        points: &[Point],
-        ends: &mut Vec<E>,
-        attributes: &mut Vec<A>,
-        extras: &mut Vec<Extra>,
-    ) -> Result<(), AllocError>
-        ensures added { OnOk result (self.new ≡ self.old
-            ++ any_record head points.now ends.old.items attributes.old.items extras.old.items ∷ []) }
-        ensures no_ends { OnOk result (ends.new.items ≡ []) }
-        ensures no_attributes { OnOk result (attributes.new.items ≡ []) }
-        ensures no_extras { OnOk result (extras.new.items ≡ []) }
-        ensures unchanged { OnErr result (self.new ≡ self.old) }
-    {
-        close_if_full(self.alloc, &mut self.closed, &mut self.last)?;
-        self.last
-            .push_beside(head, points, ends, attributes, extras)
     }
 
     /// How many records there are.

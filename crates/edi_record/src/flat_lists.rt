@@ -1,6 +1,6 @@
 //! Parts of flat lists, in which the parts of records lie one behind the other.
 
-ghost use Rattle.std.specs.Prelude.{◌≡◌, ◌+◌, ◌≤◌, ◌<◌, ◌∷◌, ◌++◌, [], length, slice_range, IfOk, OnOk, OnErr};
+ghost use Rattle.std.specs.Prelude.{◌≡◌, ◌+◌, ◌≤◌, ◌<◌, ◌∷◌, ◌++◌, [], length, slice_range, IfOk, OnOk};
 ghost use Rattle.std.specs.Vec.{vec_len, vec_capacity};
 
 use std::alloc::{AllocError, Global};
@@ -28,6 +28,20 @@ pub(crate) fn make_room<T>(list: &mut Vec<T>, more: usize) -> Result<u32, AllocE
 {
     if list.is_empty() {
         return place_of(more);
+    }
+    list.reserve(more)?;
+    place_of(list.len() + more)
+}
+
+/// Makes room for so many more elements; and before the first, for as many as are to come. Where the elements will end
+/// is the answer.
+pub(crate) fn room_for<T>(list: &mut Vec<T>, more: usize, all: usize) -> Result<u32, AllocError>
+    ensures items { list.new.items ≡ list.old.items }
+    ensures room { OnOk result (vec_len list.new + more ≤ vec_capacity list.new) }
+    ensures stop { IfOk result (λ stop. stop ≡ length list.old.items + more) }
+{
+    if list.is_empty() {
+        list.reserve(all)?;
     }
     list.reserve(more)?;
     place_of(list.len() + more)
@@ -64,17 +78,6 @@ pub(crate) fn append<T: Drop>(list: &mut Vec<T>, items: &mut Vec<T>)
         return;
     }
     move_behind(list, items);
-}
-
-/// Copies elements behind those of a list.
-pub(crate) fn copy_behind<T: Copy>(list: &mut Vec<T>, items: &[T]) -> Result<(), AllocError>
-    ensures copied { OnOk result (list.new.items ≡ list.old.items ++ items.now) }
-    ensures unchanged { OnErr result (list.new.items ≡ list.old.items) }
-{
-    if items.is_empty() {
-        return Ok(());
-    }
-    list.extend_from_slice(items)
 }
 
 /// Empties a list. It is kept for later elements unless it has room for very many.

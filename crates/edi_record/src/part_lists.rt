@@ -1,6 +1,6 @@
 //! The parts of records in flat lists, in which they lie one behind the other.
 
-ghost use Rattle.std.specs.Prelude.{◌≡◌, ◌+◌, ◌<◌, ◌≤◌, ◌++◌, [], IfOk, OnOk};
+ghost use Rattle.std.specs.Prelude.{◌≡◌, ◌+◌, ◌<◌, ◌≤◌, ◌++◌, [], take, IfOk, OnOk};
 ghost use Rattle.std.specs.Vec.{vec_len, vec_capacity};
 ghost use Rattle.edi_record.specs.AnyRecords.{record_lent};
 ghost use Rattle.edi_record.specs.inner.FlatRecords.{parts_between, ArePartsTo};
@@ -107,6 +107,34 @@ impl<A, E> PartLists<A, E> {
 }
 
 impl<A: Drop, E: Drop> PartLists<A, E> {
+    /// The points and the extra zones up to here, with other ends and attributes.
+    pub(crate) fn with_others<B, F>(
+        self,
+        to: Stops,
+        ends: Vec<F>,
+        attributes: Vec<B>,
+    ) -> PartLists<B, F>
+        ensures points { result.points.items ≡ take to.points self.points.items }
+        ensures ends { result.ends ≡ ends }
+        ensures attributes { result.attributes ≡ attributes }
+        ensures extras { result.extras.items ≡ take to.extras self.extras.items }
+    {
+        let PartLists {
+            mut points,
+            ends: _,
+            attributes: _,
+            mut extras,
+        } = self;
+        points.truncate(to.points as usize);
+        extras.truncate(to.extras as usize);
+        PartLists {
+            points,
+            ends,
+            attributes,
+            extras,
+        }
+    }
+
     /// Moves ends, attributes and extra zones behind those that are there.
     pub(crate) fn append(
         &mut self,

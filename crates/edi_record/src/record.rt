@@ -1,6 +1,6 @@
 //! Records and their parts.
 
-ghost use Rattle.std.specs.Prelude.{◌≡◌, ◌||◌, IfOk};
+ghost use Rattle.std.specs.Prelude.{◌≡◌, ◌||◌};
 ghost use Rattle.edi_record.specs.Records.{has_points as kind_has_points, is_link as kind_is_link};
 ghost use Rattle.edi_record.specs.inner.RecordRules.{is_arc_kind};
 ghost use Rattle.edi_record.specs.Shapes.{kind_code, may_have_points as may_have_so_many};
@@ -8,7 +8,6 @@ ghost use Rattle.edi_record.specs.Shapes.{kind_code, may_have_points as may_have
 use crate::end::End;
 use crate::name::Name;
 use edi_line::{Num, Sequence, Text};
-use std::alloc::AllocError;
 
 /// The type of a record of a sheet.
 #[derive(Clone, Copy, PartialEq, Eq, PartialOrd, Ord, Hash)]
@@ -140,24 +139,6 @@ impl Drop for Extra {
             format: _,
             value: _,
         } = self;
-    }
-}
-
-impl Extra {
-    /// The same zone, with memory of its own.
-    pub fn copy(&self) -> Result<Extra, AllocError>
-        ensures { IfOk result (λ copy. copy ≡ self.now) }
-    {
-        let value = match &self.value {
-            Value::Number(number) => Value::Number(*number),
-            Value::Bytes(text) => Value::Bytes(text.clone()?),
-        };
-        Ok(Extra {
-            code: self.code,
-            nature: self.nature,
-            format: self.format,
-            value,
-        })
     }
 }
 

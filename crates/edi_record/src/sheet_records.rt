@@ -10,7 +10,7 @@ use crate::identifier::Identifier;
 use crate::record::{Attribute, Kind};
 use crate::record_parts::{RecordHead, RecordParts};
 use crate::record_ref::RecordRef;
-use crate::sheet_rest::SheetRest;
+use crate::remaking::Remaking;
 use std::alloc::{AllocError, Global};
 use std::marker::Model;
 
@@ -111,11 +111,11 @@ impl SheetRecords {
         self.blocks.record(place).ends
     }
 
-    /// The records, to be gone through once and let go on the way.
-    pub fn into_rest(self) -> SheetRest
-        ensures { result ≡ self }
+    /// The records, on their way to others with heads, attributes and ends of another kind.
+    pub fn into_remaking<H: Drop, A: Drop, E: Drop>(self) -> Remaking<H, A, E>
+        ensures { result ≡ record { made = []; left = self } }
     {
         let SheetRecords { blocks } = self;
-        SheetRest::new(blocks)
+        Remaking::new(blocks)
     }
 }

@@ -19,7 +19,7 @@ use Rattle.edi_plan.specs.declared.fault.Unresolved.{Unresolved}
 use Rattle.edi_plan.specs.declared.fault.Unresolved.TheVariants.{Memory, Broken}
 use Rattle.edi_plan.specs.declared.record.PlanAttribute.{PlanAttribute}
 use Rattle.edi_plan.specs.declared.record.PlanEnd.{PlanEnd}
-use Rattle.edi_plan.specs.declared.record.PlanRecord.{PlanRecord}
+use Rattle.edi_plan.specs.declared.planned.PlannedRecord.{PlannedRecord}
 use Rattle.edi_plan.specs.declared.references.References.{References}
 use Rattle.edi_plan.specs.declared.references.Subset.{Subset}
 use Rattle.edi_schema.specs.declared.by_role.ByRole.{ByRole}
@@ -81,15 +81,13 @@ reference_tests s subset targets table r =
     ∷ test 305 (list_any is_none targets)
     ∷ link_tests table (role_of_link s r) targets
 
--- a record as the plan has it
-pub record IsPlanned (s : Classes) (targets : List (Option Target)) (r : Record) (p : PlanRecord) : Type 0 where
-  pub kind : p.kind ≡ r.kind
-  pub class : place_of s r.scp ≡ Some p.class
-  pub role : role_named s r.scp ≡ Some p.role
-  pub points : p.points ≡ r.points
-  pub attributes : AllZip (StatesPlanAttribute s) r.attributes p.attributes
-  pub extras : p.extras ≡ r.extras
-  pub ends : AreGiven targets r.ends p.ends
+-- a record as the plan has it, but for its points and its extra zones
+pub record IsPlanned (s : Classes) (targets : List (Option Target)) (r : Record) (p : PlannedRecord) : Type 0 where
+  pub kind : p.head.kind ≡ r.kind
+  pub class : place_of s r.scp ≡ Some p.head.class
+  pub role : role_named s r.scp ≡ Some p.head.role
+  pub attributes : AllZip (StatesPlanAttribute s) r.attributes p.attributes.items
+  pub ends : AreGiven targets r.ends p.ends.items
 
 -- the first repeat of a name, the targets of all ends, and the lot and the subset of the first
 pub record AreReferences (list : List Record) (r : References) : Type 0 where

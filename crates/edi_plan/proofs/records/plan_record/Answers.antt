@@ -61,12 +61,10 @@ returns-clause-planned c =
     let r = c.args.record.now in
     let class = sym c.requires.class ∙ c.in-Some.is in
     record {
-      kind = c.kind-2.ensures;
+      kind = c.kind-kind.ensures;
       class = class;
       role = role_there s r.scp c.in-Some.class class ∙ ap Some (sym c.role-role.ensures);
-      points = c.points.ensures;
       attributes = zip_states s r.attributes c.in_ok-attributes.attributes.items (subst (λ (xs : List Attribute). AllZip (Resolves s) xs c.in_ok-attributes.attributes.items) c.attributes.ensures c.in_ok-attributes.ensures.ok);
-      extras = c.in_ok-plan_extras.ensures ∙ c.extras.ensures;
       ends = subst (λ (xs : List EndData). AreGiven c.args.targets.now xs c.in_ok-ends.ends.items) c.ends-2.ensures c.in_ok-ends.ensures.ok;
     }
 

@@ -1,4 +1,4 @@
-use Rattle.std.proofs.Common.{rules, ◌≡◌, ◌≢◌, ◌∙◌, refl, ◌+◌, ◌≤◌, ℕ, [], None, Some, true≢false, List, Option, sym, ap, subst, arith, length, take, drop}
+use Rattle.std.proofs.Common.{rules, ◌≡◌, ◌≢◌, ◌∙◌, ◌++◌, ◌∷◌, refl, ◌+◌, ◌≤◌, ℕ, [], None, Some, true≢false, List, Option, sym, ap, subst, arith, length, take, drop}
 use Rattle.std.proofs.lemmas.List.{length-replicate, take_all}
 use Rattle.std.specs.List.{AllZip}
 use Rattle.std.proofs.lemmas.Option.{slice_get_within}
@@ -20,10 +20,11 @@ use Rattle.edi_plan.specs.inner.EarlierLinks.{IsOfSideAt}
 use Rattle.edi_plan.proofs.EarlierLinks.{link_found}
 use Rattle.edi_plan.specs.inner.Resolving.{reference_tests, IsUnresolved}
 use Rattle.edi_plan.specs.inner.Targets.{IsTargetIfAny, AreTargets}
+use Rattle.edi_plan.specs.inner.Planned.{planned_with}
 use Rattle.edi_plan.specs.inner.RecordLists.{plan_records_of}
 use Rattle.edi_plan.specs.declared.references.Subset.{Subset}
 use Rattle.edi_plan.proofs.DoneLemmas.{least_here, refused_at, repeats_301, step_done}
-use Rattle.edi_plan.proofs.RecordLemmas.{own_targets, later_targets, enough_targets, entries_there, record_stated, cut_at, got_there, left_there, none_left, one_left_less, fresh_at, repeats_here, ahead_more, written}
+use Rattle.edi_plan.proofs.RecordLemmas.{own_targets, later_targets, enough_targets, entries_there, record_stated, cut_at, first_is, got_there, left_there, none_left, one_left_less, fresh_at, repeats_here, ahead_more, written}
 use Rattle.edi_plan.proofs.NewTable.{new_entries, nothing_of}
 use Rattle.edi_plan.proofs.records.plan_records.Goals as goal
 
@@ -38,7 +39,7 @@ returns-then-is_place-clause-least c =
 
 pub split_at-requires : goal.split_at-requires
 split_at-requires c =
-    let here = left_there c.args.records c.loop-record.rest c.loop-record.place c.in-Some.record c.loop-record.invariant.rest c.in-Some.ensures in
+    let here = left_there c.args.records c.loop-record.remaking.left c.loop-record.place c.in-Some.record c.loop-record.invariant.rest c.in-Some.ensures in
     let next = cut_at c.args.records c.loop-record.place c.in-Some.record here in
     let enough = enough_targets c.args.records (drop c.loop-record.place c.args.records) (drop (c.loop-record.place + 1) c.args.records) c.in-Some.record next c.loop-record.targets.now c.loop-record.invariant.left in
     subst (λ (es : List EndData). length es ≤ length c.loop-record.targets.now) (sym c.ends.ensures) enough
@@ -46,7 +47,7 @@ split_at-requires c =
 pub plan_record-requires-clause-entries : goal.plan_record-requires-clause-entries
 plan_record-requires-clause-entries c =
     let i = c.loop-record.invariant in
-    let here = left_there c.args.records c.loop-record.rest c.loop-record.place c.in-Some.record i.rest c.in-Some.ensures in
+    let here = left_there c.args.records c.loop-record.remaking.left c.loop-record.place c.in-Some.record i.rest c.in-Some.ensures in
     let next = cut_at c.args.records c.loop-record.place c.in-Some.record here in
     let own = own_targets c.args.records (drop c.loop-record.place c.args.records) (drop (c.loop-record.place + 1) c.args.records) c.in-Some.record next c.loop-record.targets.now i.left in
     let is : c.split_at.result.0.now ≡ take (length c.in-Some.record.ends) c.loop-record.targets.now = c.split_at.ensures.front ∙ ap (λ (es : List EndData). take (length es) c.loop-record.targets.now) c.ends.ensures in
@@ -59,7 +60,7 @@ returns-in-Err-Broken-clause-least c =
     let r = c.in-Some.record in
     let place = c.loop-record.place in
     let i = c.loop-record.invariant in
-    let here = left_there list c.loop-record.rest place r i.rest c.in-Some.ensures in
+    let here = left_there list c.loop-record.remaking.left place r i.rest c.in-Some.ensures in
     let next = cut_at list place r here in
     let is : c.split_at.result.0.now ≡ take (length r.ends) c.loop-record.targets.now = c.split_at.ensures.front ∙ ap (λ (es : List EndData). take (length es) c.loop-record.targets.now) c.ends.ensures in
     let own = subst (AllZip (IsTargetIfAny list) r.ends) (sym is) (own_targets list (drop c.loop-record.place c.args.records) (drop (c.loop-record.place + 1) c.args.records) r next c.loop-record.targets.now i.left) in
@@ -79,15 +80,17 @@ returns-in-Err-Broken-clause-earlier c =
     let place = c.loop-record.place in
     let rule = c.in-Err-Broken.rule in
     let i = c.loop-record.invariant in
-    let here = left_there list c.loop-record.rest place r i.rest c.in-Some.ensures in
+    let here = left_there list c.loop-record.remaking.left place r i.rest c.in-Some.ensures in
     let is : c.split_at.result.0.now ≡ take (length r.ends) c.loop-record.targets.now = c.split_at.ensures.front ∙ ap (λ (es : List EndData). take (length es) c.loop-record.targets.now) c.ends.ensures in
     let own = subst (AllZip (IsTargetIfAny list) r.ends) (sym is) (own_targets list (drop place list) (drop (place + 1) list) r (cut_at list place r here) c.loop-record.targets.now i.left) in
+    let planned = plan_records_of c.into_made.result in
+    let zipped = subst (λ es. AllZip (StatesPlanRecord s list) (take place list) (plan_records_of es)) (sym c.into_made.ensures) i.zipped in
     let told = c.broken_rule-in-Err-Broken.ensures in
     let fault : c.broken_rule-in-Err-Broken.result.fault ≡ Broken rule (place + 1) = told.fault ∙ rw c.in-Err-Broken.field-0-is refl in
     let least = subst (IsRecordRefusal (BreaksReferenceRule s list)) fault (returns-in-Err-Broken-clause-least c) in
     let found = λ (e : rule ≡ 307).
-    link_found s list place r here c.split_at.result.0.now own (plan_records_of c.loop-record.list) i.zipped rule e least.is c.earlier_link-earlier.result
-    (subst (λ (role : Role). IsLeastIfAny (IsOfSideAt (plan_records_of c.loop-record.list) role c.split_at.result.0.now) c.earlier_link-earlier.result) c.link_role.ensures
+    link_found s list place r here c.split_at.result.0.now own planned zipped rule e least.is c.earlier_link-earlier.result
+    (subst (λ (role : Role). IsLeastIfAny (IsOfSideAt planned role c.split_at.result.0.now) c.earlier_link-earlier.result) c.link_role-role.ensures
     (c.earlier_link-earlier.ensures.link (rw c.in-Err-Broken.field-0-is e))) in
     let others = λ (other : rule ≢ 307). c.earlier_link-earlier.ensures.others (rw c.in-Err-Broken.field-0-is other) in
     subst (λ (f : RecordFault). IsEarlierLinkIfAny s list f c.broken_rule-in-Err-Broken.result.earlier) (sym fault)
@@ -100,7 +103,7 @@ loop-record-preserved c =
     let r = c.in-Some.record in
     let place = c.loop-record.place in
     let i = c.loop-record.invariant in
-    let here = left_there list c.loop-record.rest place r i.rest c.in-Some.ensures in
+    let here = left_there list c.loop-record.remaking.left place r i.rest c.in-Some.ensures in
     let next = cut_at list place r here in
     let is : c.split_at.result.0.now ≡ take (length r.ends) c.loop-record.targets.now = c.split_at.ensures.front ∙ ap (λ (es : List EndData). take (length es) c.loop-record.targets.now) c.ends.ensures in
     let own = subst (AllZip (IsTargetIfAny list) r.ends) (sym is) (own_targets list (drop c.loop-record.place c.args.records) (drop (c.loop-record.place + 1) c.args.records) r next c.loop-record.targets.now i.left) in
@@ -110,14 +113,17 @@ loop-record-preserved c =
     let sound = subst (λ (x : Option Subset). first_broken (reference_tests s x c.split_at.result.0.now c.deref_mut.result.now r) ≡ None) c.requires.references.subset c.in-Ok.ensures.sound in
     let done = step_done s list place r here c.split_at.result.0.now own c.deref_mut.result.now before c.plan_record.new.sides sound fresh c.in-Ok.ensures.noted in
     let states = record_stated s list r c.split_at.result.0.now c.in-Ok.planned own c.in-Ok.ensures.planned in
+    let put = c.in_ok-spare-in-Ok.ensures in
+    let made = plan_records_of c.loop-record.remaking.made in
+    let same = first_is c.loop-record.remaking.left c.put.new.remaking.left put.0 r put.1 c.in-Some.ensures in
     record {
       same = c.class-class.ensures.same ∙ i.same;
       finders = c.in-Ok.ensures.same;
       there = let there = slice_get_within list place r here in omega (arith, there);
-      rest = one_left_less list c.loop-record.rest _ place i.rest c.advance.ensures;
+      rest = one_left_less list c.loop-record.remaking.left c.put.new.remaking.left put.0 place i.rest put.1;
       zipped =
-          zip_taken (StatesPlanRecord s list) [] list place r (plan_records_of c.loop-record.list) c.in-Ok.planned (plan_records_of c.put_behind.new.list) (slice_get_within list place r here) (got_there list place r here)
-          c.in_ok-spare-in-Ok.ensures i.zipped states;
+          zip_taken (StatesPlanRecord s list) [] list place r made (planned_with c.in-Ok.planned r) (plan_records_of c.put.new.remaking.made) (slice_get_within list place r here) (got_there list place r here)
+          (put.2 ∙ ap (λ q. made ++ planned_with c.in-Ok.planned q ∷ []) same) i.zipped states;
       ahead = ahead_more place c.args.references.now.repeat i.ahead elsewhere;
       left = subst (AreTargets list (drop (c.loop-record.place + 1) c.args.records)) (sym (c.split_at.ensures.back ∙ ap (λ (es : List EndData). drop (length es) c.loop-record.targets.now) c.ends.ensures))
           (later_targets list (drop c.loop-record.place c.args.records) (drop (c.loop-record.place + 1) c.args.records) r next c.loop-record.targets.now i.left);
@@ -129,12 +135,12 @@ loop-record-init c = record {
   same = c.new-classes.ensures;
   finders = c.new-attribute_classes.ensures;
   there = omega arith;
-  rest = c.into_rest-rest.ensures;
-  zipped = subst (AllZip (StatesPlanRecord c.args.schema.now c.args.records) []) (sym (ap plan_records_of c.in_ok-list.ensures)) tt;
+  rest = ap (λ v. v.left) c.into_remaking-remaking.ensures;
+  zipped = subst (AllZip (StatesPlanRecord c.args.schema.now c.args.records) []) (sym (ap (λ v. plan_records_of v.made) c.into_remaking-remaking.ensures)) tt;
   ahead = search rules;
   left = search rules;
   done = record {
-    long = ap length c.in_ok-sides.ensures ∙ (length-replicate _ _ ∙ c.len-2.ensures.len);
+    long = ap length c.in_ok-sides.ensures ∙ (length-replicate _ _ ∙ c.len.ensures.len);
     unbroken = λ k rule less. absurd (omega (arith, less));
     joined = λ k r role less. absurd (omega (arith, less));
     noted = λ a role plain.
@@ -147,11 +153,12 @@ loop-record-init c = record {
 
 pub returns-clause-sides : goal.returns-clause-sides
 returns-clause-sides c =
-    let all = none_left c.args.records c.loop-record.rest c.loop-record.place c.loop-record.invariant.rest c.loop-record.invariant.there c.in_default.ensures in
+    let all = none_left c.args.records c.loop-record.remaking.left c.loop-record.place c.loop-record.invariant.rest c.loop-record.invariant.there c.in_default.ensures in
     subst (λ n. IsDone c.args.schema.now c.args.records n c.loop-record.sides.items) all c.loop-record.invariant.done
 
 pub returns-clause-each : goal.returns-clause-each
 returns-clause-each c =
     let list = c.args.records in
-    let all = none_left list c.loop-record.rest c.loop-record.place c.loop-record.invariant.rest c.loop-record.invariant.there c.in_default.ensures in
-    subst (λ rs. AllZip (StatesPlanRecord c.args.schema.now list) rs (plan_records_of c.loop-record.list)) (take_all c.loop-record.place list (omega (arith, all))) c.loop-record.invariant.zipped
+    let all = none_left list c.loop-record.remaking.left c.loop-record.place c.loop-record.invariant.rest c.loop-record.invariant.there c.in_default.ensures in
+    subst (λ es. AllZip (StatesPlanRecord c.args.schema.now list) list (plan_records_of es)) (sym c.into_made-2.ensures)
+    (subst (λ rs. AllZip (StatesPlanRecord c.args.schema.now list) rs (plan_records_of c.loop-record.remaking.made)) (take_all c.loop-record.place list (omega (arith, all))) c.loop-record.invariant.zipped)
