@@ -4,7 +4,7 @@ ghost use Rattle.std.specs.Prelude.{◌≡◌, ℕ, ◌+◌, ◌%◌, ◌<◌, �
 ghost use Rattle.std.specs.List.{fold};
 ghost use Rattle.edi_line.specs.Bytes.{most_records};
 ghost use Rattle.edi_record.specs.Records.{is_link};
-ghost use Rattle.edi_plan.specs.inner.Hints.{three_bytes as number_at, with_bits as bits_added, last_bytes as number_in, near_number, farther, start_of, kind_slot as slot_of_kind, slots_at, first_named as first_in, found, HasAll, HasTabled, KeepsPlaces, StandsAt, ArePassedAt, StandsUnder};
+ghost use Rattle.edi_plan.specs.inner.Hints.{three_bytes as number_at, with_bits as bits_added, last_bytes as number_in, front_bytes as number_in_front, near_number, farther, start_of, kind_slot as slot_of_kind, slots_at, first_named as first_in, found, HasAll, HasTabled, KeepsPlaces, StandsAt, ArePassedAt, StandsUnder};
 ghost use Rattle.edi_plan.specs.inner.LinkNames.{LinksDiffer};
 ghost use Rattle.edi_plan.specs.inner.Names.{name_lent};
 ghost use Rattle.edi_plan.specs.PlanOf.{place_named};
@@ -19,6 +19,9 @@ use std::alloc::{AllocError, Global};
 const LAST: usize = 6;
 
 const HALF: usize = 3;
+
+// How far apart the slots of names begin that differ in the bytes before these.
+const SPREAD: u64 = 7919;
 
 /// The last four bits of a byte: of a digit its number.
 fn last_bits(byte: u8) -> u64
@@ -67,6 +70,19 @@ pub(crate) fn last_bytes(text: &[u8]) -> u64
     three_bytes(text, len - LAST) * 1000 + three_bytes(text, len - HALF)
 }
 
+/// The three bytes before the last six of a text, read as digits of a number, or 0 if it has fewer. They part names that
+/// end alike, as those of a grid do (`v12_106`, `h112_106`).
+#[tactic(auto, unfolding(crate::specs::inner::Hints::front_bytes))]
+fn front_bytes(text: &[u8]) -> u64
+    ensures { result ≡ number_in_front text.now }
+{
+    let len = text.len();
+    if len < LAST + HALF {
+        return 0;
+    }
+    three_bytes(text, len - LAST - HALF)
+}
+
 /// Which of the eight slots of a number come first for a type.
 fn kind_slot(kind: Kind) -> u64
     ensures { result ≡ slot_of_kind kind }
@@ -96,7 +112,9 @@ fn first_named(records: &SheetRecords, places: &[u32], name: &RecordNameRef<'_>)
 fn near_number(name: &RecordNameRef<'_>) -> u64
     ensures { result ≡ near_number name.now.kind name.now.rid.now }
 {
-    last_bytes(name.rid.as_slice())
+    let rid = name.rid.as_slice();
+    last_bytes(rid)
+        .wrapping_add(front_bytes(rid).wrapping_mul(SPREAD))
         .wrapping_mul(WINDOW as u64)
         .wrapping_add(kind_slot(name.kind))
 }

@@ -26,6 +26,10 @@ unfoldable pub last_bytes : List ℕ → ℕ
 last_bytes text = if nat_lt (length text) 6 then fold with_bits 0 text else
     three_bytes text (length text - 6) * 1000 + three_bytes text (length text - 3)
 
+-- the three bytes before these as digits of a number, or 0 where there are fewer
+unfoldable pub front_bytes : List ℕ → ℕ
+front_bytes text = if nat_lt (length text) 9 then 0 else three_bytes text (length text - 6 - 3)
+
 abbrev pub kind_slot : Kind → ℕ
 kind_slot Pno = 0
 kind_slot Par = 2
@@ -39,7 +43,8 @@ farther slots number = (number + slots / 2) % 2 ^ 64
 
 -- the numbers of a name, by which its slots are found: its own, and a farther one
 unfoldable pub near_number : Kind → List ℕ → ℕ
-near_number kind rid = ((last_bytes rid * 8) % 2 ^ 64 + kind_slot kind) % 2 ^ 64
+near_number kind rid =
+    ((((last_bytes rid + (front_bytes rid * 7919) % 2 ^ 64) % 2 ^ 64) * 8) % 2 ^ 64 + kind_slot kind) % 2 ^ 64
 
 abbrev pub far_number : ℕ → Kind → List ℕ → ℕ
 far_number slots kind rid = farther slots (near_number kind rid)
