@@ -15,7 +15,7 @@ use crate::names::{RecordNameRef, count_tabled, has_name, is_tabled, name_at};
 use edi_record::{Kind, SheetRecords};
 use std::alloc::{AllocError, Global};
 
-// How many bytes at the end of an identifier decide where its slots begin.
+// How many bytes at the end of an identifier are read as one number.
 const LAST: usize = 6;
 
 const HALF: usize = 3;
