@@ -1,5 +1,5 @@
 -- Records that are found by their names.
-use Rattle.std.proofs.Common.{◌≡◌, ℕ, zero, suc, add-one, ◌+◌, ◌++◌, ◌<◌, ◌≤◌, Bool, true, false, not, List, [], ◌∷◌, length, drop, slice_index_or, Option, None, Some, is_some, if◌then◌else◌, slice_get, refl, sym, ap, ◌∙◌, subst, arith}
+use Rattle.std.proofs.Common.{◌≡◌, ℕ, zero, suc, add-one, ◌+◌, ◌++◌, ◌<◌, ◌≤◌, Bool, true, false, not, ◌&&◌, ◌==◌, List, [], ◌∷◌, length, drop, slice_index_or, Option, None, Some, is_some, if◌then◌else◌, slice_get, refl, sym, ap, ◌∙◌, subst, arith}
 use Rattle.std.proofs.lemmas.Option.{get_or_from_slice_get}
 use Rattle.edi_record.specs.Records.{is_link}
 use Rattle.edi_record.specs.Shapes.{kind_code, stated_at}
@@ -9,8 +9,9 @@ use Rattle.edi_record.specs.declared.record.Kind.TheVariants.{Pno, Par, Pfe, Fea
 use Rattle.edi_record.specs.declared.record.Record.{Record}
 use Rattle.edi_schema.proofs.Names.{same_name}
 use Rattle.edi_plan.specs.PlanOf.{own_name, place_named}
-use Rattle.edi_plan.specs.inner.Hints.{is_named, is_named_at, first_named, found, HasAll, HasTabled}
+use Rattle.edi_plan.specs.inner.Hints.{is_named, is_named_at, is_held, first_held, tag_of, found, HasAll, HasTabled}
 use Rattle.edi_plan.specs.inner.LinkNames.{LinksDiffer}
+use Rattle.edi_plan.specs.inner.Slots.{slot_place, slot_tag}
 use Rattle.edi_plan.specs.inner.Names.{RepeatsNameAt, is_tabled}
 use Rattle.edi_plan.specs.inner.Targets.{HasNameAt}
 use Rattle.edi_plan.specs.declared.name_slots.NameHints.{NameHints}
@@ -40,30 +41,37 @@ module _ (list : List Record) (name : Name) where
       go None at h = cc
       go (Some r) at h = record { there = r; here = at; is = same_name (own_name r) name h }
 
-  pub first_there : (places : List ℕ) (place : ℕ) → first_named list name places ≡ Some place → HasNameAt list name place
-  unfolding first_named
-  first_there [] place h = cc
-  first_there (p ∷ ps) place h = go (is_named_at list name p) refl h (first_there ps place)
+  held_named : (slot : ℕ) → is_held list name slot ≡ true → is_named_at list name (slot_place slot) ≡ true
+  held_named slot = go (slot_tag slot == tag_of name.rid)
     where
-      go : (b : Bool) → is_named_at list name p ≡ b → (if b then Some p else first_named list name ps) ≡ Some place → (first_named list name ps ≡ Some place → HasNameAt list name place) → HasNameAt list name place
-      go true t e more = subst (HasNameAt list name) (same_some e) (named_there p t)
+      go : (b : Bool) → b && is_named_at list name (slot_place slot) ≡ true → is_named_at list name (slot_place slot) ≡ true
+      go true h = h
+      go false h = cc
+
+  pub first_there : (slots : List ℕ) (place : ℕ) → first_held list name slots ≡ Some place → HasNameAt list name place
+  unfolding first_held
+  first_there [] place h = cc
+  first_there (p ∷ ps) place h = go (is_held list name p) refl h (first_there ps place)
+    where
+      go : (b : Bool) → is_held list name p ≡ b → (if b then Some (slot_place p) else first_held list name ps) ≡ Some place → (first_held list name ps ≡ Some place → HasNameAt list name place) → HasNameAt list name place
+      go true t e more = subst (HasNameAt list name) (same_some e) (named_there (slot_place p) (held_named p t))
       go false t e more = more e
 
-  -- what is left of the places goes on with the next of them
-  cut_next : (places : List ℕ) (i : ℕ) → i < length places
-      → first_named list name (drop i places) ≡ (if is_named_at list name (slice_index_or places i 0) then Some (slice_index_or places i 0) else first_named list name (drop (suc i) places))
-  unfolding first_named
+  -- what is left of the slots goes on with the next of them
+  cut_next : (slots : List ℕ) (i : ℕ) → i < length slots
+      → first_held list name (drop i slots) ≡ (if is_held list name (slice_index_or slots i 0) then Some (slot_place (slice_index_or slots i 0)) else first_held list name (drop (suc i) slots))
+  unfolding first_held
   cut_next [] i less = absurd (omega (arith, less))
   cut_next (p ∷ ps) zero less = refl
   cut_next (p ∷ ps) (suc i) less = cut_next ps i (omega (arith, less))
 
-  pub first_cut : (places : List ℕ) (i : ℕ) → i < length places
-      → first_named list name (drop i places) ≡ (if is_named_at list name (slice_index_or places i 0) then Some (slice_index_or places i 0) else first_named list name (drop (i + 1) places))
-  first_cut places i less =
-      cut_next places i less ∙ ap (λ n. if is_named_at list name (slice_index_or places i 0) then Some (slice_index_or places i 0) else first_named list name (drop n places)) (sym (add-one i))
+  pub first_cut : (slots : List ℕ) (i : ℕ) → i < length slots
+      → first_held list name (drop i slots) ≡ (if is_held list name (slice_index_or slots i 0) then Some (slot_place (slice_index_or slots i 0)) else first_held list name (drop (i + 1) slots))
+  first_cut slots i less =
+      cut_next slots i less ∙ ap (λ n. if is_held list name (slice_index_or slots i 0) then Some (slot_place (slice_index_or slots i 0)) else first_held list name (drop n slots)) (sym (add-one i))
 
-  pub first_none : (places : List ℕ) (i : ℕ) → length places ≤ i → first_named list name (drop i places) ≡ None
-  unfolding first_named
+  pub first_none : (slots : List ℕ) (i : ℕ) → length slots ≤ i → first_held list name (drop i slots) ≡ None
+  unfolding first_held
   first_none [] zero past = refl
   first_none [] (suc i) past = refl
   first_none (p ∷ ps) zero past = absurd (omega (arith, past))
@@ -140,15 +148,15 @@ pub finds_all : (rise : Bool) (list : List Record) (hints : NameHints) → (rise
 finds_all true list hints differ has = (differ refl, plain_found true list hints has)
 finds_all false list hints differ has = (links_found_differ list hints has, plain_found false list hints has)
 
--- what stands under a name in two lists of places, one after the other
-pub first_of_two : (list : List Record) (name : Name) (places more : List ℕ)
-    → first_named list name (places ++ more) ≡ (if is_some (first_named list name places) then first_named list name places else first_named list name more)
-unfolding first_named
+-- what stands under a name in two lists of slots, one after the other
+pub first_of_two : (list : List Record) (name : Name) (slots more : List ℕ)
+    → first_held list name (slots ++ more) ≡ (if is_some (first_held list name slots) then first_held list name slots else first_held list name more)
+unfolding first_held
 first_of_two list name [] more = refl
-first_of_two list name (p ∷ ps) more = go (is_named_at list name p) (first_of_two list name ps more)
+first_of_two list name (p ∷ ps) more = go (is_held list name p) (first_of_two list name ps more)
   where
-    go : (b : Bool) → first_named list name (ps ++ more) ≡ (if is_some (first_named list name ps) then first_named list name ps else first_named list name more)
-        → (if b then Some p else first_named list name (ps ++ more))
-        ≡ (if is_some (if b then Some p else first_named list name ps) then (if b then Some p else first_named list name ps) else first_named list name more)
+    go : (b : Bool) → first_held list name (ps ++ more) ≡ (if is_some (first_held list name ps) then first_held list name ps else first_held list name more)
+        → (if b then Some (slot_place p) else first_held list name (ps ++ more))
+        ≡ (if is_some (if b then Some (slot_place p) else first_held list name ps) then (if b then Some (slot_place p) else first_held list name ps) else first_held list name more)
     go true h = refl
     go false h = h

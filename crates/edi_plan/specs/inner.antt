@@ -3,6 +3,7 @@ pub mod Planned
 pub mod Done
 pub mod LinkNames
 pub mod Names
+pub mod Slots
 pub mod Hints
 pub mod Found
 pub mod Findings

@@ -4,13 +4,14 @@ ghost use Rattle.std.specs.Prelude.{◌≡◌, ℕ, ◌+◌, ◌%◌, ◌<◌, �
 ghost use Rattle.std.specs.List.{fold};
 ghost use Rattle.edi_line.specs.Bytes.{most_records};
 ghost use Rattle.edi_record.specs.Records.{is_link};
-ghost use Rattle.edi_plan.specs.inner.Hints.{three_bytes as number_at, with_bits as bits_added, last_bytes as number_in, front_bytes as number_in_front, near_number, farther, start_of, kind_slot as slot_of_kind, slots_at, first_named as first_in, found, HasAll, HasTabled, KeepsPlaces, StandsAt, ArePassedAt, StandsUnder};
+ghost use Rattle.edi_plan.specs.inner.Hints.{three_bytes as number_at, with_bits as bits_added, last_bytes as number_in, front_bytes as number_in_front, own_number, near_from, tag_from, farther, start_of, kind_slot as slot_of_kind, slots_at, tag_of, is_held as holds, first_held as first_in, found, HasAll, HasTabled, KeepsPlaces, StandsAt, ArePassedAt, StandsUnder};
 ghost use Rattle.edi_plan.specs.inner.LinkNames.{LinksDiffer};
 ghost use Rattle.edi_plan.specs.inner.Names.{name_lent};
+ghost use Rattle.edi_plan.specs.inner.Slots.{slot_tag};
 ghost use Rattle.edi_plan.specs.PlanOf.{place_named};
 ghost use Rattle.edi_plan.specs.declared.name_hints.Putting.TheVariants.{Put, Full};
 
-use crate::name_slots::{FREE, NameHints, WINDOW};
+use crate::name_slots::{FREE, NameHints, WINDOW, place_in, slot_of, tag_in};
 use crate::names::{RecordNameRef, count_tabled, has_name, is_tabled, name_at};
 use edi_record::{Kind, SheetRecords};
 use std::alloc::{AllocError, Global};
@@ -22,6 +23,9 @@ const HALF: usize = 3;
 
 // How far apart the slots of names begin that differ in the bytes before these.
 const SPREAD: u64 = 7919;
+
+// An odd number without a pattern: the first bits of its product with a number depend on all bits of that.
+const MIXER: u64 = 11_400_714_819_323_198_485;
 
 /// The last four bits of a byte: of a digit its number.
 fn last_bits(byte: u8) -> u64
@@ -95,28 +99,58 @@ fn kind_slot(kind: Kind) -> u64
     }
 }
 
-/// The first of these places at which a record of this name stands.
-fn first_named(records: &SheetRecords, places: &[u32], name: &RecordNameRef<'_>) -> Option<u32>
-    ensures { result ≡ first_in records.now (name_lent name.now) places.now }
+/// The number of an identifier: its last nine bytes have a share in it.
+#[tactic(auto, unfolding(crate::specs::inner::Hints::own_number))]
+fn own_number(rid: &[u8]) -> u64
+    ensures { result ≡ own_number rid.now }
 {
-    for place in places {
-        if has_name(records, *place, name) {
-            return Some(*place);
+    last_bytes(rid).wrapping_add(front_bytes(rid).wrapping_mul(SPREAD))
+}
+
+/// The number by which the first slots of a name are found.
+#[tactic(auto, unfolding(crate::specs::inner::Hints::near_from))]
+fn near_from(kind: Kind, own: u64) -> u64
+    ensures { result ≡ near_from kind own }
+{
+    own.wrapping_mul(WINDOW as u64)
+        .wrapping_add(kind_slot(kind))
+}
+
+/// The tag of an identifier: a byte in which those that share slots mostly differ, whether by their numbers or, as `v12_106`
+/// and `h12_106` do, in their first bytes.
+#[tactic(auto, unfolding(crate::specs::inner::Hints::tag_from))]
+fn tag_from(rid: &[u8], own: u64) -> u8
+    ensures { result ≡ tag_from rid.now own }
+{
+    let first = if rid.is_empty() { 0 } else { rid[0] };
+    ((own.wrapping_mul(MIXER) >> 56) as u8).wrapping_add(first)
+}
+
+/// Whether a slot has the place of a record of this name. The record is looked at only if the tag is that of the name, so
+/// that few records of other names are.
+fn is_held(records: &SheetRecords, slot: u32, tag: u8, name: &RecordNameRef<'_>) -> bool
+    requires { tag ≡ tag_of name.now.rid.now }
+    ensures { result ≡ holds records.now (name_lent name.now) slot }
+{
+    tag_in(slot) == tag && has_name(records, place_in(slot), name)
+}
+
+/// The place in the first of these slots that has one of this name.
+fn first_held(
+    records: &SheetRecords,
+    slots: &[u32],
+    tag: u8,
+    name: &RecordNameRef<'_>,
+) -> Option<u32>
+    requires { tag ≡ tag_of name.now.rid.now }
+    ensures { result ≡ first_in records.now (name_lent name.now) slots.now }
+{
+    for slot in slots {
+        if is_held(records, *slot, tag, name) {
+            return Some(place_in(*slot));
         }
     }
     None
-}
-
-/// The number of a name by which its first slots are found.
-#[tactic(auto, unfolding(crate::specs::inner::Hints::near_number))]
-fn near_number(name: &RecordNameRef<'_>) -> u64
-    ensures { result ≡ near_number name.now.kind name.now.rid.now }
-{
-    let rid = name.rid.as_slice();
-    last_bytes(rid)
-        .wrapping_add(front_bytes(rid).wrapping_mul(SPREAD))
-        .wrapping_mul(WINDOW as u64)
-        .wrapping_add(kind_slot(name.kind))
 }
 
 /// What becomes of a place that is to go into the slots of a number.
@@ -161,34 +195,38 @@ impl NameHints {
     fn find(&self, records: &SheetRecords, name: &RecordNameRef<'_>) -> Option<u32>
         ensures { result ≡ found records.now self.now name.now.kind name.now.rid.now }
     {
-        let number = near_number(name);
-        let near = first_named(records, self.slots_at(number), name);
+        let rid = name.rid.as_slice();
+        let own = own_number(rid);
+        let tag = tag_from(rid, own);
+        let number = near_from(name.kind, own);
+        let near = first_held(records, self.slots_at(number), tag, name);
         if near.is_some() {
             return near;
         }
-        first_named(records, self.slots_at(self.farther(number)), name)
+        first_held(records, self.slots_at(self.farther(number)), tag, name)
     }
 
-    /// Puts a place into the first free one of the slots of a number, if no record of the name stands before it.
+    /// Puts a tagged place into the first free one of the slots of a number, if no record of the name stands before it.
     fn put_at(
         &mut self,
         records: &SheetRecords,
         name: &RecordNameRef<'_>,
         number: u64,
-        place: u32,
+        tagged: u32,
     ) -> Putting
+        requires { slot_tag tagged ≡ tag_of name.now.rid.now }
         ensures kept { KeepsPlaces self.old.slots.items self.new.slots.items }
-        ensures put { result ≡ Put → StandsAt records.now (name_lent name.now) self.new.slots.items number place }
+        ensures put { result ≡ Put → StandsAt records.now (name_lent name.now) self.new.slots.items number tagged }
         ensures full { result ≡ Full → ArePassedAt records.now (name_lent name.now) self.new.slots.items number }
     {
         let start = self.start(number);
         for at in start..start + WINDOW {
             let there = self.slots[at];
             if there == FREE {
-                self.slots[at] = place;
+                self.slots[at] = tagged;
                 return Putting::Put;
             }
-            if has_name(records, there, name) {
+            if is_held(records, there, tag_in(tagged), name) {
                 return Putting::Repeats;
             }
         }
@@ -198,16 +236,20 @@ impl NameHints {
     /// Puts a place into the first free slot of a name, if no record of the name stands before it. Then the place is
     /// found by the name, and stays so whatever is put into the slots that are still free.
     fn put(&mut self, records: &SheetRecords, name: &RecordNameRef<'_>, place: u32) -> bool
+        requires { place ≤ most_records }
         ensures kept { KeepsPlaces self.old.slots.items self.new.slots.items }
         ensures put { result ≡ true → StandsUnder records.now self.new.slots.items name.now.kind name.now.rid.now place }
     {
-        let number = near_number(name);
-        match self.put_at(records, name, number, place) {
+        let rid = name.rid.as_slice();
+        let own = own_number(rid);
+        let tagged = slot_of(tag_from(rid, own), place);
+        let number = near_from(name.kind, own);
+        match self.put_at(records, name, number, tagged) {
             Putting::Put => true,
             Putting::Repeats => false,
             Putting::Full => {
                 let number = self.farther(number);
-                matches!(self.put_at(records, name, number, place), Putting::Put)
+                matches!(self.put_at(records, name, number, tagged), Putting::Put)
             }
         }
     }

@@ -1,5 +1,5 @@
 -- Where a record of a name can stand.
-use Rattle.std.specs.Prelude.{◌≡◌, ◌≢◌, ℕ, ◌+◌, ◌++◌, ◌-◌, ◌*◌, ◌/◌, ◌%◌, ◌^◌, ◌<◌, ◌≤◌, ◌⊎◌, Bool, false, true, List, [], ◌∷◌, length, bit_and, nat_lt, Option, None, Some, slice_get, slice_index, slice_range, if◌then◌else◌}
+use Rattle.std.specs.Prelude.{◌≡◌, ◌≢◌, ◌==◌, ◌&&◌, ℕ, ◌+◌, ◌++◌, ◌-◌, ◌*◌, ◌/◌, ◌%◌, ◌^◌, ◌<◌, ◌≤◌, ◌⊎◌, Bool, false, true, List, [], ◌∷◌, length, bit_and, nat_lt, Option, None, Some, slice_get, slice_index, slice_range, if◌then◌else◌}
 use Rattle.std.specs.List.{fold}
 use Rattle.edi_record.specs.Records.{is_link}
 use Rattle.edi_record.specs.Shapes.{kind_code}
@@ -10,6 +10,7 @@ use Rattle.edi_record.specs.declared.record.Record.{Record}
 use Rattle.edi_schema.specs.Classes.{is_name}
 use Rattle.edi_plan.specs.PlanOf.{own_name}
 use Rattle.edi_plan.specs.inner.Names.{is_tabled}
+use Rattle.edi_plan.specs.inner.Slots.{tagged, slot_tag, slot_place, free_slot}
 use Rattle.edi_plan.specs.declared.name_slots.NameHints.{NameHints}
 
 -- three bytes of a text from a place on, each by its last four bits, as digits of a number
@@ -37,14 +38,27 @@ kind_slot Pfe = 4
 kind_slot Fea = 6
 kind_slot Lnk = 6
 
+-- the number of an identifier
+unfoldable pub own_number : List ℕ → ℕ
+own_number rid = (last_bytes rid + (front_bytes rid * 7919) % 2 ^ 64) % 2 ^ 64
+
+-- the tag of an identifier with this number: a byte that its first byte and all bits of the number have a share in
+unfoldable pub tag_from : List ℕ → ℕ → ℕ
+tag_from rid own = ((own * 11400714819323198485) % 2 ^ 64 / 2 ^ 56 + slice_index rid 0) % 256
+
+abbrev pub tag_of : List ℕ → ℕ
+tag_of rid = tag_from rid (own_number rid)
+
 -- a number that is half of so many slots greater
 unfoldable pub farther : ℕ → ℕ → ℕ
 farther slots number = (number + slots / 2) % 2 ^ 64
 
--- the numbers of a name, by which its slots are found: its own, and a farther one
-unfoldable pub near_number : Kind → List ℕ → ℕ
-near_number kind rid =
-    ((((last_bytes rid + (front_bytes rid * 7919) % 2 ^ 64) % 2 ^ 64) * 8) % 2 ^ 64 + kind_slot kind) % 2 ^ 64
+-- the numbers of a name, by which its slots are found: one of its own, and a farther one
+unfoldable pub near_from : Kind → ℕ → ℕ
+near_from kind own = ((own * 8) % 2 ^ 64 + kind_slot kind) % 2 ^ 64
+
+abbrev pub near_number : Kind → List ℕ → ℕ
+near_number kind rid = near_from kind (own_number rid)
 
 abbrev pub far_number : ℕ → Kind → List ℕ → ℕ
 far_number slots kind rid = farther slots (near_number kind rid)
@@ -71,37 +85,37 @@ is_named name (Some r) = is_name (own_name r) name
 abbrev pub is_named_at : List Record → Name → ℕ → Bool
 is_named_at list name place = is_named name (slice_get list place)
 
--- the first of these places at which a record of this name stands
-unfoldable pub first_named : List Record → Name → List ℕ → Option ℕ
-first_named list name [] = None
-first_named list name (place ∷ places) =
-    if is_named_at list name place then Some place else first_named list name places
+-- whether a slot has the tag of this name, and the place of a record of this name
+abbrev pub is_held : List Record → Name → ℕ → Bool
+is_held list name slot = (slot_tag slot == tag_of name.rid) && is_named_at list name (slot_place slot)
 
--- what a free slot has
-abbrev pub free_slot : ℕ
-free_slot = 4294967295
+-- the place in the first of these slots that has one of this name
+unfoldable pub first_held : List Record → Name → List ℕ → Option ℕ
+first_held list name [] = None
+first_held list name (slot ∷ slots) =
+    if is_held list name slot then Some (slot_place slot) else first_held list name slots
 
--- a slot that has this place isn't free, and no record of this name stands there
+-- a slot that has this isn't free, and has no place of this name
 abbrev pub IsPassed : List Record → Name → ℕ → Type 0
-IsPassed list name place = (place ≢ free_slot) × (is_named_at list name place ≡ false)
+IsPassed list name slot = (slot ≢ free_slot) × (is_held list name slot ≡ false)
 
 -- so it is with each slot from one up to another
 abbrev pub ArePassed : List Record → Name → List ℕ → ℕ → ℕ → Type 0
 ArePassed list name slots from to =
     (at : ℕ) → from ≤ at → at < to → IsPassed list name (slice_index slots at)
 
--- one of the eight slots from here on has this place, and those before it are passed
-pub record StandsFrom (list : List Record) (name : Name) (slots : List ℕ) (start place : ℕ) : Type 0 where
+-- one of the eight slots from here on has this tagged place, and those before it are passed
+pub record StandsFrom (list : List Record) (name : Name) (slots : List ℕ) (start slot : ℕ) : Type 0 where
   pub at : ℕ
   pub past_start : start ≤ at
   pub in_window : at < start + 8
   pub within : at < length slots
-  pub here : slice_index slots at ≡ place
+  pub here : slice_index slots at ≡ slot
   pub before : ArePassed list name slots start at
 
 -- and so it is with the slots of this number
 abbrev pub StandsAt : List Record → Name → List ℕ → ℕ → ℕ → Type 0
-StandsAt list name slots number place = StandsFrom list name slots (start_of (length slots) number) place
+StandsAt list name slots number slot = StandsFrom list name slots (start_of (length slots) number) slot
 
 -- all slots of this number are passed
 abbrev pub ArePassedAt : List Record → Name → List ℕ → ℕ → Type 0
@@ -112,9 +126,9 @@ ArePassedAt list name slots number =
 abbrev pub StandsUnder : List Record → List ℕ → Kind → List ℕ → ℕ → Type 0
 StandsUnder list slots kind rid place =
     let name : Name = record { rty = kind_code kind; rid = rid } in
-    StandsAt list name slots (near_number kind rid) place
+    StandsAt list name slots (near_number kind rid) (tagged (tag_of rid) place)
     ⊎ (ArePassedAt list name slots (near_number kind rid)
-    × StandsAt list name slots (far_number (length slots) kind rid) place)
+    × StandsAt list name slots (far_number (length slots) kind rid) (tagged (tag_of rid) place))
 
 -- the new slots are as many, and what isn't free among the old stays as it is
 pub record KeepsPlaces (old new : List ℕ) : Type 0 where
@@ -124,7 +138,7 @@ pub record KeepsPlaces (old new : List ℕ) : Type 0 where
 -- what stands in the slots of a name under this name
 abbrev pub found : List Record → NameHints → Kind → List ℕ → Option ℕ
 found list hints kind rid =
-    first_named list (record { rty = kind_code kind; rid = rid }) (slots_of hints.slots.items kind rid)
+    first_held list (record { rty = kind_code kind; rid = rid }) (slots_of hints.slots.items kind rid)
 
 -- each record is found by its name, but for links where these rise
 abbrev pub HasTabled : Bool → List Record → NameHints → Type 0

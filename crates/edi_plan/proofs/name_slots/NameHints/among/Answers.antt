@@ -1,4 +1,4 @@
-use Rattle.std.proofs.Common.{ℕ, ◌∙◌, ◌≤◌, true, ap, subst, sym, arith}
+use Rattle.std.proofs.Common.{ℕ, ◌∙◌, ◌<◌, ◌≤◌, true, ap, subst, sym, arith}
 use Rattle.std.proofs.lemmas.Bool.{false≢true}
 use Rattle.edi_plan.specs.inner.Hints.{StandsUnder}
 use Rattle.edi_plan.specs.inner.Names.{is_tabled}
@@ -10,9 +10,10 @@ pub loop-place-preserved-then-not-is_tabled : goal.loop-place-preserved-then-not
 loop-place-preserved-then-not-is_tabled c =
     let list = c.args.records.now in
     let place = c.loop-place.place in
+    let few : place < 16777215 = omega (arith, c.requires, c.len-place-end.ensures.len, c.loop-place-test.true) in
     let name = c.name_at-name.result in
     let slots = c.loop-place.hints.slots.items in
-    stand_more c.args.links_rise list slots slots (keeps_same slots) place (omega arith) c.loop-place.invariant
+    stand_more c.args.links_rise list slots slots (keeps_same slots) place few c.loop-place.invariant
     (λ r there tabled.
     let kind = kind_there list place r name.kind name.rid.now there c.name_at-name.ensures in
     absurd (false≢true (sym c.if-not-is_tabled.true ∙ (c.is_tabled.ensures ∙ (ap (is_tabled c.args.links_rise) kind ∙ tabled)))))
@@ -21,9 +22,10 @@ pub loop-place-preserved : goal.loop-place-preserved
 loop-place-preserved c =
     let list = c.args.records.now in
     let place = c.loop-place.place in
+    let few : place < 16777215 = omega (arith, c.requires, c.len-place-end.ensures.len, c.loop-place-test.true) in
     let name = c.name_at-name.result in
     let slots = c.put.new.self.slots.items in
-    stand_more c.args.links_rise list c.loop-place.hints.slots.items slots c.put.ensures.kept place (omega arith) c.loop-place.invariant
+    stand_more c.args.links_rise list c.loop-place.hints.slots.items slots c.put.ensures.kept place few c.loop-place.invariant
     (λ r there tabled.
     let kind = kind_there list place r name.kind name.rid.now there c.name_at-name.ensures in
     let rid = rid_there list place r name.kind name.rid.now there c.name_at-name.ensures in
@@ -31,5 +33,5 @@ loop-place-preserved c =
     subst (λ k. StandsUnder list slots k r.rid place) kind (subst (λ i. StandsUnder list slots name.kind i place) rid stands))
 
 pub returns : goal.returns
-returns c = places_found c.args.links_rise c.args.records.now c.loop-place.hints c.loop-place.place
+returns c = places_found c.args.links_rise c.args.records.now c.loop-place.hints c.loop-place.place c.requires
     (subst (λ (n : ℕ). n ≤ c.loop-place.place) c.len-place-end.ensures.len c.loop-place-test.false) c.loop-place.invariant
