@@ -1,6 +1,6 @@
 -- The records that have a class, record by record; the lines on classes, class by class.
 use Rattle.std.proofs.Common.{◌≡◌, ◌∙◌, ◌⊎◌, inl, inr, ◌+◌, ◌<◌, ◌≤◌, ◌++◌, ℕ, suc, Bool, true, false, cond, eqb, List, [], ◌∷◌, count_by, drop, get_or, length, slice_get, take, Some, refl, sym, ap, ap₂, arith}
-use Rattle.std.proofs.lemmas.Bool.{cases_order, eqb-true}
+use Rattle.std.proofs.lemmas.Bool.{cases_order}
 use Rattle.std.proofs.lemmas.List.{append_assoc, at_drop_more, get_or_past, take_more}
 use Rattle.std.proofs.lemmas.Option.{get_or_from_slice_get, slice_get_within}
 use Rattle.edi_plan.specs.Plans.{PlanData, blank}
@@ -40,22 +40,6 @@ more_said p place names name said count old new total there is counts pushed kep
 
 -- ---- one more counted
 
-off : (a b : ℕ) → (a ≡ b → ⊥) → eqb a b ≡ false
-off a b differ = not_true (eqb a b) (λ t. differ (eqb-true a b t))
-  where
-    not_true : (t : Bool) → (t ≡ true → ⊥) → t ≡ false
-    not_true false h = refl
-    not_true true h = absurd (h refl)
-
--- the place of a class is that of no other
-pub same_place : (long class place k : ℕ) → k < long → (class < long → place ≡ class) → (long ≤ class → place ≡ long) → eqb place k ≡ eqb class k
-same_place long class place k less within behind = go (cases_order class long)
-  where
-    go : (class ≡ long) ⊎ ((class < long) ⊎ (long < class)) → eqb place k ≡ eqb class k
-    go (inr (inl in_front)) = ap (λ n. eqb n k) (within in_front)
-    go (inr (inr past)) = off place k (λ e. omega (arith, e, behind (omega arith))) ∙ sym (off class k (λ e. omega (arith, e)))
-    go (inl at) = off place k (λ e. omega (arith, e, at, behind (omega (arith, at)))) ∙ sym (off class k (λ e. omega (arith, e, at)))
-
 module _ (old new : List ℕ) (n place : ℕ) (long : length new ≡ length old)
     (each : (k : ℕ) → k < length old → get_or new k 0 ≡ get_or old k 0 + cond (eqb place k) 1 0) where
   at_most : (b : Bool) → cond b 1 0 ≤ 1
@@ -73,9 +57,7 @@ module _ (old new : List ℕ) (n place : ℕ) (long : length new ≡ length old)
       go (inr (inl less)) = omega (arith, each k less, few k, at_most (eqb place k))
       go (inr (inr more)) = past (omega (arith, more))
 
-  pub each_more : (list : List PlanRecord) (classes class : ℕ) → n < length list → class ≡ (get_or list n blank).class → length old ≡ classes
-      → (class < classes → place ≡ class) → (classes ≤ class → place ≡ classes)
+  pub each_more : (list : List PlanRecord) (classes : ℕ) → n < length list → place ≡ (get_or list n blank).class → length old ≡ classes
       → ((k : ℕ) → k < classes → get_or old k 0 ≡ counted list k n) → (k : ℕ) → k < classes → get_or new k 0 ≡ counted list k (n + 1)
-  each_more list classes class there is many within behind kept k less =
-      let tested : cond (eqb place k) 1 0 ≡ cond (eqb (get_or list n blank).class k) 1 0 = ap (λ b. cond b 1 0) (same_place classes class place k less within behind ∙ ap (λ c. eqb c k) is) in
-      each k (omega (arith, many, less)) ∙ (ap₂ (λ (a b : ℕ). a + b) (kept k less) tested ∙ sym (counted_more list k n there))
+  each_more list classes there is many kept k less =
+      each k (omega (arith, many, less)) ∙ (ap₂ (λ (a b : ℕ). a + b) (kept k less) (ap (λ c. cond (eqb c k) 1 0) is) ∙ sym (counted_more list k n there))

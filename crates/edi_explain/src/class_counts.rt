@@ -8,27 +8,9 @@ use crate::explained::describe_plan;
 use crate::extra_zones::push_extra_zones;
 use edi_line::push_number;
 use edi_plan::Plan;
-use edi_schema::{ClassRef, Schema};
+use edi_schema::Schema;
 use edi_shown::push_shown;
 use std::alloc::{AllocError, Global};
-
-/// The place of a class, by halves; or the number of classes, if it is none of the schema's.
-fn place_of(schema: &Schema, class: ClassRef) -> usize
-    ensures within { class < length schema.now → result ≡ class }
-    ensures behind { length schema.now ≤ class → result ≡ length schema.now }
-{
-    let mut low = 0;
-    let mut high = schema.class_count();
-    while low < high {
-        let middle = low + (high - low) / 2;
-        if schema.class_at(middle) < class {
-            low = middle + 1;
-        } else {
-            high = middle;
-        }
-    }
-    low
-}
 
 /// For so many classes, of which no record is counted.
 fn no_counts(alloc: Global, count: usize) -> Result<Vec<u64>, AllocError>
@@ -62,7 +44,7 @@ fn class_counts(alloc: Global, schema: &Schema, plan: &Plan) -> Result<Vec<u64>,
 {
     let mut counts = no_counts(alloc, schema.class_count())?;
     for place in 0..plan.len() {
-        count_one(&mut counts, place_of(schema, plan.scp(place)));
+        count_one(&mut counts, plan.scp(place).place() as usize);
     }
     Ok(counts)
 }

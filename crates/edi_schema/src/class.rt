@@ -36,7 +36,7 @@ impl ClassRef {
     }
 
     /// The place of the class from 0, in the order of the names.
-    pub(crate) fn place(self) -> u32
+    pub fn place(self) -> u32
         ensures { result ≡ self }
     {
         self.place

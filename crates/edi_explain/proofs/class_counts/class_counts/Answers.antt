@@ -8,10 +8,10 @@ loop-place-preserved c =
     let old = c.loop-place.counts.items in
     let new = c.count_one.new.counts.items in
     let n = c.loop-place.place in
-    let place = c.place_of.result in
+    let place = c.place.result in
     let one = c.count_one.ensures in
     let there = subst (λ (m : ℕ). n < m) c.len-place-end.ensures c.loop-place-test.true in record {
       long = one.length ∙ kept.long;
       few = few_more old new n place one.length one.each kept.few;
-      each = each_more old new n place one.length one.each c.args.plan.now.list (length c.args.schema.now) c.scp.result there c.scp.ensures kept.long c.place_of.ensures.within c.place_of.ensures.behind kept.each;
+      each = each_more old new n place one.length one.each c.args.plan.now.list (length c.args.schema.now) there (c.place.ensures ∙ c.scp.ensures) kept.long kept.each;
     }
