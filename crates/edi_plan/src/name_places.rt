@@ -13,8 +13,8 @@ use crate::names::{Names, RecordNameRef, links_rise};
 use edi_record::SheetRecords;
 use std::alloc::{AllocError, Global};
 
-/// The names of records: by hints where these find all, as they do in most sheets, and else in a table. Without a
-/// table, its key and look-ups there a check of 101,899 records takes 31 million instructions less of 737.
+/// The names of records: by hints where these find all, as they do in most sheets, and else in a table. Hints spare most
+/// sheets the table, its key and look-ups there.
 pub(crate) enum NamePlaces<'a> {
     Hinted(NameHints),
     Tabled(Names<'a>),
