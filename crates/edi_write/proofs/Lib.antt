@@ -13,3 +13,4 @@ pub mod WrittenReferences
 pub mod WrittenPrinted
 pub mod KindNames
 pub mod Rows
+pub mod Opened

@@ -2,4 +2,5 @@
 pub mod ClassLines
 pub mod Heads
 pub mod LabelledPlans
+pub mod Openings
 pub mod Numbered

@@ -8,6 +8,7 @@ mod labelled_plan;
 pub mod laws;
 mod links;
 mod names;
+mod openings;
 mod page;
 mod parts;
 mod records;

@@ -12,6 +12,7 @@ ghost use Rattle.edi_rank.specs.Labelling.{AreLabels, number_of, order_of};
 ghost use Rattle.edi_write.specs.inner.ClassLines.{IsLineOfItsClass};
 ghost use Rattle.edi_write.specs.inner.Heads.{headed};
 ghost use Rattle.edi_write.specs.Layout.{attribute_zones, head_zones};
+ghost use Rattle.edi_write.specs.inner.Openings.{opening_of};
 ghost use Rattle.edi_write.specs.inner.Numbered.{arc_body, link_body, numbered_body, numbered_zones, ordered_tail};
 
 use crate::class_line::ClassLine;
@@ -19,10 +20,10 @@ use crate::heads::{ATTRIBUTE_COUNT, END_COUNT, POINT_COUNT, ZoneHead};
 use crate::labelled_plan::LabelledPlan;
 use crate::links::write_ends;
 use crate::names::{type_zone, write_identifier};
+use crate::openings::{BATCH, Opening};
 use crate::page::Page;
 use crate::parts::{write_attribute, write_extra, write_point};
 use edi_plan::{PlanAttribute, sorted_attributes};
-use edi_rank::class_after_reversals;
 use edi_record::{Extra, Kind, Point};
 use edi_schema::Schema;
 use itoa::Buffer;
@@ -133,20 +134,19 @@ impl<'a> LabelledPlan<'a> {
         &self,
         page: &mut Page,
         line: &mut ClassLine,
-        place: u32,
+        opening: &Opening,
     ) -> Result<(), AllocError>
-        requires place { IsPlace self.now.plan place }
+        requires place { IsPlace self.now.plan opening.now.place }
+        requires opening { opening.now ≡ opening_of self.now opening.now.place }
         requires line { IsLineOfItsClass self.now.classes line.old }
         ensures line { OnOk result (IsLineOfItsClass self.now.classes line.new) }
         ensures written { OnOk result (page.new.file.items ≡ page.old.file.items
-            ++ printed (head_zones self.now.classes (number_of self.now.labels place)
-            (arranged_record self.now.classes self.now.labels self.now.plan place))) }
+            ++ printed (head_zones self.now.classes (number_of self.now.labels opening.now.place)
+            (arranged_record self.now.classes self.now.labels self.now.plan opening.now.place))) }
     {
-        let kind = self.plan.kind(place);
-        page.file.extend_from_slice(type_zone(kind))?;
-        write_identifier(page, kind, self.labels.number(place))?;
-        let class = class_after_reversals(self.schema, self.plan, self.labels.turned_arcs(), place);
-        line.write(page, self.schema, class)
+        page.file.extend_from_slice(type_zone(opening.kind))?;
+        write_identifier(page, opening.kind, opening.number)?;
+        line.write(page, self.schema, opening.class)
     }
 
     /// Writes the count of a link's ends, and these in their order.
@@ -160,12 +160,15 @@ impl<'a> LabelledPlan<'a> {
     }
 
     /// Writes what stands between the class and the attributes: points or ends.
-    fn write_body(&self, page: &mut Page, place: u32) -> Result<(), AllocError>
-        requires { IsPlace self.now.plan place }
+    fn write_body(&self, page: &mut Page, opening: &Opening) -> Result<(), AllocError>
+        requires place { IsPlace self.now.plan opening.now.place }
+        requires opening { opening.now ≡ opening_of self.now opening.now.place }
         ensures { OnOk result (page.new.file.items ≡ page.old.file.items ++ printed
-            (numbered_body self.now.labels self.now.plan place (record_at self.now.plan place).kind)) }
+            (numbered_body self.now.labels self.now.plan opening.now.place
+            (record_at self.now.plan opening.now.place).kind)) }
     {
-        match self.plan.kind(place) {
+        let place = opening.place;
+        match opening.kind {
             Kind::Pno => write_forward(page, self.plan.points(place)),
             Kind::Par => write_arc(page, self.plan.points(place), self.labels.turned(place)),
             Kind::Pfe | Kind::Fea => Ok(()),
@@ -185,23 +188,64 @@ impl<'a> LabelledPlan<'a> {
         write_extras(page, self.plan.extras(place))
     }
 
-    /// Writes the record at a place.
+    /// Writes a record.
     fn write_record(
         &self,
         alloc: Global,
         page: &mut Page,
         line: &mut ClassLine,
-        place: u32,
+        opening: &Opening,
     ) -> Result<(), AllocError>
-        requires place { IsPlace self.now.plan place }
+        requires place { IsPlace self.now.plan opening.now.place }
+        requires opening { opening.now ≡ opening_of self.now opening.now.place }
         requires line { IsLineOfItsClass self.now.classes line.old }
         ensures line { OnOk result (IsLineOfItsClass self.now.classes line.new) }
         ensures written { OnOk result (page.new.file.items ≡ page.old.file.items
-            ++ printed (numbered_zones self.now.classes self.now.labels self.now.plan place)) }
+            ++ printed (numbered_zones self.now.classes self.now.labels self.now.plan opening.now.place)) }
     {
-        self.write_head(page, line, place)?;
-        self.write_body(page, place)?;
-        self.write_tail(alloc, page, place)
+        self.write_head(page, line, opening)?;
+        self.write_body(page, opening)?;
+        self.write_tail(alloc, page, opening.place)
+    }
+
+    /// Writes the records that open so, one after the other.
+    fn write_opened(
+        &self,
+        alloc: Global,
+        page: &mut Page,
+        line: &mut ClassLine,
+        openings: &[Opening],
+    ) -> Result<(), AllocError>
+        requires openings { AllByRecursion (λ o. IsPlace self.now.plan o.place × (o ≡ opening_of self.now o.place))
+            openings.now }
+        requires line { IsLineOfItsClass self.now.classes line.old }
+        ensures line { OnOk result (IsLineOfItsClass self.now.classes line.new) }
+        ensures written { OnOk result (page.new.file.items ≡ page.old.file.items
+            ++ printed (flat_map (numbered_zones self.now.classes self.now.labels self.now.plan)
+            (map (λ o. o.place) openings.now))) }
+    {
+        for opening in openings {
+            self.write_record(alloc, page, line, opening)?;
+        }
+        Ok(())
+    }
+
+    /// Writes the records at these places.
+    fn write_places(&self, alloc: Global, page: &mut Page, places: &[u32]) -> Result<(), AllocError>
+        requires { AllByRecursion (IsPlace self.now.plan) places.now }
+        ensures { OnOk result (page.new.file.items ≡ page.old.file.items
+            ++ printed (flat_map (numbered_zones self.now.classes self.now.labels self.now.plan) places.now)) }
+    {
+        let mut line = ClassLine::new(alloc);
+        let mut openings = Vec::new(alloc);
+        let mut rest = places;
+        while !rest.is_empty() {
+            let (batch, behind) = rest.split_at(rest.len().min(BATCH));
+            self.look_up(batch, &mut openings)?;
+            self.write_opened(alloc, page, &mut line, &openings)?;
+            rest = behind;
+        }
+        Ok(())
     }
 
     /// Writes the records of a kind, by their numbers.
@@ -210,12 +254,7 @@ impl<'a> LabelledPlan<'a> {
             ++ printed (flat_map (numbered_zones self.now.classes self.now.labels self.now.plan)
             (order_of self.now.labels kind))) }
     {
-        let places = self.labels.order(kind);
-        let mut line = ClassLine::new(alloc);
-        for place in places {
-            self.write_record(alloc, page, &mut line, *place)?;
-        }
-        Ok(())
+        self.write_places(alloc, page, self.labels.order(kind))
     }
 
     /// Writes the records: nodes, arcs, faces, objects and links, each by their numbers.
