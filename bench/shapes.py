@@ -4,10 +4,13 @@
     cd crates/edicad && rt run -- --version         builds out/edicad
     python3 bench/shapes.py [SHAPE ..]              from the top; all shapes where none is named
     python3 bench/shapes.py --commands [SHAPE ..]   each sheet through every other command that reads one
+    python3 bench/shapes.py --growth [SHAPE ..]     the same at a tenth of its size and at a hundredth, by instructions
 
 Each sheet goes through `canon` with a stack
 of 1 MiB; a pair of sheets that differ through `diff`, and a file of classes or a sheet that is refused through `explain`.
 With `--commands` each sheet and its canonical file go through `hash`, `explain`, `draw`, `diff`, `compare --pairing` and `verify`.
+With `--growth` what is printed for each of these is how many times as many instructions a tenth of the sheet takes as a hundredth, which doesn't depend on
+what else the machine does; `pieces`, which is large, is taken at a hundredth and a thousandth.
 Printed for each shape: the size of its sheet, seconds of user and system time, the peak memory as a multiple of the size,
 how many times as long as a tenth of it takes, and the program's answer. Ten times the sheet should take little more than ten times.
 """
@@ -18,10 +21,12 @@ import sys
 import tempfile
 
 import generate
+import parity
 
 HERE = os.path.dirname(os.path.abspath(__file__))
 PROGRAM = os.path.join(HERE, "..", "crates", "edicad", "out", "edicad")
 STACK = 1024 * 1024
+OTHERS, GROWTH = "--commands", "--growth"
 
 
 def zone(head, value):
@@ -284,10 +289,29 @@ def through_commands(name, scd, dic, folder):
         print(f"| {name} | {command} | {seconds:.1f} s | {peak / size:.1f} | {seconds / max(least, 0.01):.1f} | {answer[:40]} |", flush=True)
 
 
-def tables(folder, names, of_commands):
-    """The table of all shapes, or that of the other commands."""
+def growth(name, scd, dic, folder):
+    """A line on a shape: how many times as many instructions each command takes of ten times the sheet."""
+    shape, count = SHAPES[name]
+    found = {}
+    for scale in (1000, 100) if name == "pieces" else (100, 10):
+        put(os.path.join(folder, "one"), shape(count // scale))
+        timed(["canon", scd, dic, os.path.join(folder, "one"), os.path.join(folder, "other")])
+        for command in COMMANDS:
+            words, _ = words_of(command, scd, dic, folder)
+            found.setdefault(command, []).append(parity.profiled(PROGRAM, words)[0])
+    print(f"| {name} |", *(f"{count / least:.1f} |" for least, count in found.values()), flush=True)
+
+
+def tables(folder, names, mode):
+    """The table of all shapes, or one of those of the other commands."""
     scd, dic = put_schema(folder)
-    if of_commands:
+    if mode == GROWTH:
+        print("| shape |", *(f"`{it}` |" for it in COMMANDS))
+        print("|---|" + "---|" * len(COMMANDS))
+        for name in names or SHAPES:
+            growth(name, scd, dic, folder)
+        return
+    if mode == OTHERS:
         print("| shape | command | time | memory / size | against a tenth | answer |\n|---|---|---|---|---|---|")
         for name in names or SHAPES:
             through_commands(name, scd, dic, folder)
@@ -301,9 +325,9 @@ def tables(folder, names, of_commands):
 
 def main():
     names = sys.argv[1:]
-    of_commands = names[:1] == ["--commands"]
+    mode = names.pop(0) if names[:1] in ([OTHERS], [GROWTH]) else None
     with tempfile.TemporaryDirectory() as folder:
-        tables(folder, names[of_commands:], of_commands)
+        tables(folder, names, mode)
 
 
 if __name__ == "__main__":

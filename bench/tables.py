@@ -27,6 +27,7 @@ def parts(other):
         ("beside", "Beside `check` and `compare`", ["beside.py"]),
         ("shapes", "Shapes", ["shapes.py"]),
         ("commands", "Shapes through the other commands", ["shapes.py", "--commands"]),
+        ("growth", "How their instructions grow", ["shapes.py", "--growth"]),
     ]
 
 

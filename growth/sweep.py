@@ -45,9 +45,10 @@ def lacks_memory(answer, wanted):
 
 
 def lacks_lines(answer, wanted):
-    """Each digest's line went out, or there was no memory for its sheet, which is said; or there was none for the schema."""
+    """Each digest's line went out, or there was no memory for its sheet, which is said; or there was none for the schema. Notes are as ever."""
     status, out, err, _ = answer
-    said, lines = err.splitlines(), out.splitlines()
+    notes, lines = wanted[2].splitlines(), out.splitlines()
+    said = [it for it in err.splitlines() if it not in notes]
     left = [it for it in wanted[1].splitlines() if it in lines]
     told = all(it == b"out of memory" or it.endswith(b": out of memory") for it in said)
     each = left == lines and len(said) + len(lines) == len(wanted[1].splitlines())

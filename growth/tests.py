@@ -23,7 +23,7 @@ FOLDERS = [os.path.abspath(it) for it in (os.path.join(CRATES, "conform", "data"
 LOOPS = {"cuts.cases", "failing_reads.cases", "failing_writes.cases", "pieces.cases"}
 # these are of the program's commands alone
 COMMANDS = {"bundles.cases", "diff.cases", "verify.cases"}
-USUAL = ["conform", "edi_hash", "edi_schema_text"]
+USUAL = ["conform", "edi_schema_text"]
 
 
 def sweep(name, program, word, library, files):
