@@ -1,5 +1,5 @@
 -- What was made of files.
-use Rattle.std.proofs.Common.{◌≡◌, ℕ, List, Option, Some, None, IfSome, inl, inr, sym, ◌∙◌, subst, ⊎_elim, Result, Ok, Err, OnOk}
+use Rattle.std.proofs.Common.{◌≡◌, ℕ, List, Option, Some, None, IfSome, inl, inr, sym, ◌∙◌, subst, ⊎_elim}
 use Rattle.edi_schema.specs.Roles.{KindCodes}
 use Rattle.edi_compare.specs.Bundle.{OfParts}
 use Rattle.edi_compare.specs.declared.fault.RunFault.{RunFault}
@@ -10,10 +10,6 @@ use Rattle.edi_words.specs.declared.words.SheetFiles.{SheetFiles}
 use Rattle.edi_files.specs.Outputs.{IsWholeOrNew}
 use Rattle.edi_answers.specs.Effects.{Inputs}
 use Rattle.edi_answers.specs.SheetRuns.{AreFourThere, AreThere, OfFiles, OfMadePair, OfPair, PairFileFault}
-
-pub on_ok_map : {T E : Type 0} (r : Result T E) (P Q : Type 0) → (P → Q) → OnOk r P → OnOk r Q
-on_ok_map (Ok v) P Q f h = f h
-on_ok_map (Err e) P Q f h = tt
 
 known_map : (a b c : Option (List ℕ)) (P Q : List ℕ → List ℕ → List ℕ → Type 0) → ((s d v : List ℕ) → P s d v → Q s d v) → IfThreeKnown a b c P → IfThreeKnown a b c Q
 known_map None b c P Q f h = tt

@@ -7,10 +7,8 @@ use Rattle.std.proofs.lemmas.List.Elements.{All-append}
 use Rattle.std.proofs.lemmas.List.Quantifiers.{Any-push, all_pairs_push}
 use Rattle.edi_line.specs.AllBroken.{AreAllBroken, StandsBefore}
 use Rattle.edi_line.specs.declared.broken.BrokenRule.{BrokenRule}
+use Rattle.edi_line.proofs.EachElement.{any_more}
 use Rattle.edi_census.specs.inner.Judging.{BreaksBefore}
-
-any_front : {X : Type 0} (P : X → Type 0) (xs : List X) (y : X) → Any P xs → Any P (xs ++ y ∷ [])
-any_front P xs y (k, x, lt, e, p) = (k, x, grind (arith, common_steps), grind (arith, common_steps), p)
 
 all_one : {X : Type 0} (P : X → Type 0) (y : X) → P y → All P (y ∷ [])
 all_one P y p k d lt = let e : k ≡ 0 = grind (arith, common_steps) in subst (λ i. P (get_or (y ∷ []) i d)) (sym e) p
@@ -59,7 +57,7 @@ module _ (B : ℕ → ℕ → Type 0) (rule at : ℕ) where
 
       go : (r p : ℕ) → BreaksBefore B rule at r p ⊎ ((r ≡ rule) × (p ≡ at))
           → Any (λ x. (x.rule ≡ r) × (x.at ≡ p)) (list ++ it ∷ [])
-      go r p (inl before) = any_front (λ (x : BrokenRule). (x.rule ≡ r) × (x.at ≡ p)) list it (h.all r p before)
+      go r p (inl before) = any_more (λ (x : BrokenRule). (x.rule ≡ r) × (x.at ≡ p)) list it (h.all r p before)
       go r p (inr (same, place)) = Any-push (λ (x : BrokenRule). (x.rule ≡ r) × (x.at ≡ p)) list it (omega (arith, is_rule, same), omega (arith, is_at, place))
 
       stands : (x : BrokenRule) → BreaksBefore B rule at x.rule x.at → StandsBefore x it

@@ -1,12 +1,8 @@
 -- Whether two lists of entries have the same digests.
-use Rattle.std.proofs.Common.{◌≡◌, ◌≢◌, ◌∙◌, ◌+◌, ◌<◌, ◌≤◌, ℕ, zero, suc, Bool, true, false, not, true≢false, List, [], ◌∷◌, ◌++◌, length, map, get_or, take, refl, sym, ap, ap₂, arith}
+use Rattle.std.proofs.Common.{◌≡◌, ◌≢◌, ◌∙◌, ◌+◌, ◌<◌, ◌≤◌, ℕ, zero, suc, List, [], ◌∷◌, ◌++◌, length, map, get_or, take, refl, sym, ap, ap₂, arith}
 use Rattle.std.proofs.lemmas.List.{length-map, take_all, take_more}
 use Rattle.edi_changes.specs.declared.entry.Entry.{Entry}
 use Rattle.edi_changes.specs.inner.Merging.{digest_in}
-
-pub tested_same : (b : Bool) → not b ≡ false → b ≡ true
-tested_same true e = refl
-tested_same false e = absurd (true≢false e)
 
 digest_at : (xs : List Entry) (i : ℕ) (d e : Entry) → i < length xs → e ≡ get_or xs i d → get_or (map digest_in xs) i [] ≡ e.digest
 digest_at [] i d e h is = absurd (omega (arith, h))

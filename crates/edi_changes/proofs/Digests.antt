@@ -4,6 +4,7 @@ use Rattle.std.specs.List.{AllByRecursion}
 use Rattle.std.specs.Ordering.{ordering_then}
 use Rattle.std.proofs.lemmas.Cmp.{tied_itself}
 use Rattle.std.proofs.lemmas.Slice.Eq.{bytes_eq-Decides}
+use Rattle.edi_line.proofs.EachElement.{each_weaker}
 use Rattle.edi_record.specs.Orders.{bytes_cmp}
 use Rattle.edi_schema.specs.Sorted.{NeverFalls, sort_by}
 use Rattle.edi_schema.proofs.SortedLists.{count_by-cons, counts_from_permutation, sort_by-in_order, sort_by-same}
@@ -11,7 +12,6 @@ use Rattle.edi_manifest.proofs.ByteOrder.{bytes_total, bytes_exact}
 use Rattle.edi_changes.specs.Changes.{digests_of}
 use Rattle.edi_changes.specs.declared.entry.Entry.{Entry}
 use Rattle.edi_changes.specs.inner.Merging.{digest_in, entry_cmp}
-use Rattle.edi_changes.proofs.Orders.{all_map}
 
 abbrev pub is_of : List ℕ → Entry → Bool
 is_of s e = bytes_eq s e.subject
@@ -62,7 +62,7 @@ run_rises s (e ∷ es) h up = (below es h.1 up.0, run_rises s es h.1 up.1)
 pub digests_of_run : (s : List ℕ) (es : List Entry) → AllByRecursion (λ (e : Entry). e.subject ≡ s) es → NeverFalls entry_cmp es → digests_of s es ≡ map digest_in es
 digests_of_run s es h up =
     ap (λ (l : List Entry). sort_by bytes_cmp (map digest_in l))
-    (filter_all (is_of s) es (all_map (λ (e : Entry). e.subject ≡ s) (λ (e : Entry). is_of s e ≡ true) (λ e is. (bytes_eq-Decides s e.subject).1 (sym is)) es h))
+    (filter_all (is_of s) es (each_weaker (λ (e : Entry). e.subject ≡ s) (λ (e : Entry). is_of s e ≡ true) (λ e is. (bytes_eq-Decides s e.subject).1 (sym is)) es h))
     ∙ sort_by-in_order bytes_cmp bytes_total bytes_exact (map digest_in es) (run_rises s es h up)
 
 -- ---- a list in another order

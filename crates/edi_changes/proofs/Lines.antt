@@ -2,6 +2,7 @@
 use Rattle.std.proofs.Common.{◌≡◌, ◌≢◌, ◌⊎◌, ◌∙◌, ◌*◌, ℕ, Bool, true, false, cond, List, [], ◌∷◌, ◌++◌, slice_index, length, codes, append_assoc, refl, sym, ap, subst, inl, inr, eqb, arith}
 use Rattle.std.specs.List.{list_any}
 use Rattle.std.proofs.lemmas.Bool.{eqb-true, eqb-false}
+use Rattle.edi_line.proofs.EachElement.{each_of_both}
 use Rattle.hex.specs.Hex.{encode_lower, lower_digits}
 use Rattle.hex.proofs.HexLemmas.{length-encode_with}
 use Rattle.edi_answers.specs.Hashes.{escaped_byte, escaped_name, is_escaped, mark_of}
@@ -10,7 +11,6 @@ use Rattle.edi_manifest.proofs.LineTexts.{digits_lack_any}
 use Rattle.edi_changes.specs.ListText.{IsListLine, list_line, schema_word}
 use Rattle.edi_changes.specs.declared.list.ListLine.{ListLine}
 use Rattle.edi_changes.specs.inner.Reading.{mark}
-use Rattle.edi_changes.proofs.Orders.{all_both}
 
 -- ---- a byte as a line shows it
 
@@ -40,7 +40,7 @@ shown_lacks x text (inr (inr (inr h))) = subst (HasNoByte 10) (sym h.2) (h.1, tt
 
 pub escaped_lacks : (name : List ℕ) → HasNoByte 10 (escaped_name name)
 escaped_lacks [] = tt
-escaped_lacks (x ∷ xs) = all_both (λ c. c ≢ 10) (escaped_byte x) (escaped_name xs) (shown_lacks x (escaped_byte x) (shown_as x)) (escaped_lacks xs)
+escaped_lacks (x ∷ xs) = each_of_both (λ c. c ≢ 10) (escaped_byte x) (escaped_name xs) (shown_lacks x (escaped_byte x) (shown_as x)) (escaped_lacks xs)
 
 -- ---- a line without its line feed
 
@@ -70,10 +70,10 @@ mark_lacks false = tt
 
 pub content_lacks : (line : ListLine) → HasNoByte 10 (content_of line)
 content_lacks line =
-    all_both (λ c. c ≢ 10) (schema_word line.is_schema) (behind_word line) (word_lacks line.is_schema)
-    (all_both (λ c. c ≢ 10) (mark_of line.name) (encode_lower line.digest ++ (codes "  " ++ escaped_name line.name)) (mark_lacks (list_any is_escaped line.name))
-    (all_both (λ c. c ≢ 10) (encode_lower line.digest) (codes "  " ++ escaped_name line.name) (digits_lack_any 10 (search arith) (search arith) line.digest)
-    (all_both (λ c. c ≢ 10) (codes "  ") (escaped_name line.name) (search arith) (escaped_lacks line.name))))
+    each_of_both (λ c. c ≢ 10) (schema_word line.is_schema) (behind_word line) (word_lacks line.is_schema)
+    (each_of_both (λ c. c ≢ 10) (mark_of line.name) (encode_lower line.digest ++ (codes "  " ++ escaped_name line.name)) (mark_lacks (list_any is_escaped line.name))
+    (each_of_both (λ c. c ≢ 10) (encode_lower line.digest) (codes "  " ++ escaped_name line.name) (digits_lack_any 10 (search arith) (search arith) line.digest)
+    (each_of_both (λ c. c ≢ 10) (codes "  ") (escaped_name line.name) (search arith) (escaped_lacks line.name))))
 
 -- ---- the first byte of digits
 

@@ -4,6 +4,8 @@ use Rattle.std.specs.List.{AllByRecursion, list_any}
 use Rattle.std.proofs.lemmas.Slice.Eq.{bytes_eq-Decides}
 use Rattle.std.proofs.lemmas.List.Elements.{recursion_from_All, All-from_recursion}
 use Rattle.std.proofs.lemmas.List.Sorted.{All-permutation, IsPermutation-sym}
+use Rattle.std.proofs.lemmas.Bool.{or_right}
+use Rattle.edi_line.proofs.EachElement.{each_weaker, each_of_both, each_behind}
 use Rattle.edi_record.specs.Orders.{bytes_cmp}
 use Rattle.edi_schema.specs.Sorted.{AlwaysRises, NeverFalls}
 use Rattle.edi_changes.specs.Changes.{AreListChanges, IsFate, IsTold, change_cmp, digests_of}
@@ -12,7 +14,7 @@ use Rattle.edi_changes.specs.declared.changes.Fate.{Fate}
 use Rattle.edi_changes.specs.declared.changes.Fate.TheVariants.{New, Gone, Changed, Same}
 use Rattle.edi_changes.specs.declared.entry.Entry.{Entry}
 use Rattle.edi_changes.specs.inner.Merging.{digest_in, entry_cmp}
-use Rattle.edi_changes.proofs.Orders.{all_back, all_both, all_map, back_rises, front_rises, less_is_other, more_is_other}
+use Rattle.edi_changes.proofs.Orders.{back_rises, front_rises, less_is_other, more_is_other}
 use Rattle.edi_changes.proofs.Digests.{digests_before, digests_behind, digests_moved, digests_of_run}
 
 -- ---- what is said so far
@@ -60,10 +62,6 @@ none_merged before after up up' = record {
 
 -- ---- one subject more
 
-or_right : (a b : Bool) → b ≡ true → (a || b) ≡ true
-or_right true b e = refl
-or_right false b e = e
-
 or_more : (a b c : Bool) → (b ≡ true → c ≡ true) → (a || b) ≡ true → (a || c) ≡ true
 or_more true b c to e = refl
 or_more false b c to e = to e
@@ -79,11 +77,11 @@ told_more (d ∷ cs) c t h =
 
 rises_more : (cs : List Change) (c : Change) → AlwaysRises change_cmp cs → AllBefore cs c.subject → AlwaysRises change_cmp (cs ++ c ∷ [])
 rises_more [] c up h = (tt, tt)
-rises_more (d ∷ cs) c up h = (all_both (λ (x : Change). change_cmp d x ≡ Less) cs (c ∷ []) up.0 (h.0, tt), rises_more cs c up.1 h.1)
+rises_more (d ∷ cs) c up h = (each_of_both (λ (x : Change). change_cmp d x ≡ Less) cs (c ∷ []) up.0 (h.0, tt), rises_more cs c up.1 h.1)
 
 behind_more : (cs : List Change) (c : Change) (es : List Entry) → AreBefore cs es → AllByRecursion (λ (e : Entry). bytes_cmp c.subject e.subject ≡ Less) es → AreBefore (cs ++ c ∷ []) es
 behind_more cs c [] h k = tt
-behind_more cs c (e ∷ es) h k = (all_both (λ (x : Change). bytes_cmp x.subject e.subject ≡ Less) cs (c ∷ []) h.0 (k.0, tt), behind_more cs c es h.1 k.1)
+behind_more cs c (e ∷ es) h k = (each_of_both (λ (x : Change). bytes_cmp x.subject e.subject ≡ Less) cs (c ∷ []) h.0 (k.0, tt), behind_more cs c es h.1 k.1)
 
 -- of what is said something is less
 told_is_less : (cs : List Change) (s t : List ℕ) → AllBefore cs s → IsTold cs t → bytes_cmp t s ≡ Less
@@ -145,7 +143,7 @@ module _ (before after : List Entry) (changes : List Change) (old new : List Ent
   -- of the subject of a run nothing was said
   done_apart : AllBefore changes s → (es : List Entry) → AllByRecursion (λ (e : Entry). IsTold changes e.subject) es → AllByRecursion (λ (e : Entry). bytes_eq s e.subject ≡ false) es
   done_apart h es told =
-      all_map (λ (e : Entry). IsTold changes e.subject) (λ (e : Entry). bytes_eq s e.subject ≡ false)
+      each_weaker (λ (e : Entry). IsTold changes e.subject) (λ (e : Entry). bytes_eq s e.subject ≡ false)
       (λ e t. more_is_other e.subject s (told_is_less changes s e.subject h t)) es told
 
   now_fits : (f : Fate) → IsFate f (map digest_in old_run) (map digest_in new_run) → Fits (m.done_before ++ old_run) (m.done_after ++ new_run) (record { subject = s; fate = f })
@@ -159,9 +157,9 @@ module _ (before after : List Entry) (changes : List Change) (old new : List Ent
       → AllByRecursion (λ (e : Entry). IsTold (changes ++ record { subject = s; fate = f } ∷ []) e.subject) (done ++ run)
   all_told f done run told is =
       let c : Change = record { subject = s; fate = f } in
-      all_both (λ (e : Entry). IsTold (changes ++ c ∷ []) e.subject) done run
-      (all_map (λ (e : Entry). IsTold changes e.subject) (λ (e : Entry). IsTold (changes ++ c ∷ []) e.subject) (λ e t. told_more changes c e.subject t) done told)
-      (all_map (λ (e : Entry). e.subject ≡ s) (λ (e : Entry). IsTold (changes ++ c ∷ []) e.subject) (λ e t. told_last changes c e.subject t) run is)
+      each_of_both (λ (e : Entry). IsTold (changes ++ c ∷ []) e.subject) done run
+      (each_weaker (λ (e : Entry). IsTold changes e.subject) (λ (e : Entry). IsTold (changes ++ c ∷ []) e.subject) (λ e t. told_more changes c e.subject t) done told)
+      (each_weaker (λ (e : Entry). e.subject ≡ s) (λ (e : Entry). IsTold (changes ++ c ∷ []) e.subject) (λ e t. told_last changes c e.subject t) run is)
 
   pub one_merged : (f : Fate) → IsFate f (map digest_in old_run) (map digest_in new_run) → Merged before after (changes ++ record { subject = s; fate = f } ∷ []) old_rest new_rest
   one_merged f fate =
@@ -173,13 +171,13 @@ module _ (before after : List Entry) (changes : List Change) (old new : List Ent
         cut_before = m.cut_before ∙ (ap (λ l. m.done_before ++ l) old_cut ∙ sym (append_assoc m.done_before old_run old_rest));
         cut_after = m.cut_after ∙ (ap (λ l. m.done_after ++ l) new_cut ∙ sym (append_assoc m.done_after new_run new_rest));
         are = record {
-          each = all_both (Fits (m.done_before ++ old_run) (m.done_after ++ new_run)) changes (c ∷ []) (still_fits changes h m.are.each) (now_fits f fate, tt);
+          each = each_of_both (Fits (m.done_before ++ old_run) (m.done_after ++ new_run)) changes (c ∷ []) (still_fits changes h m.are.each) (now_fits f fate, tt);
           all_before = all_told f m.done_before old_run m.are.all_before old_is;
           all_after = all_told f m.done_after new_run m.are.all_after new_is;
           order = rises_more changes c m.are.order h;
         };
-        old_behind = behind_more changes c old_rest (all_back (λ (e : Entry). AllBefore changes e.subject) old_run old_rest (subst (AreBefore changes) old_cut m.old_behind)) old_less;
-        new_behind = behind_more changes c new_rest (all_back (λ (e : Entry). AllBefore changes e.subject) new_run new_rest (subst (AreBefore changes) new_cut m.new_behind)) new_less;
+        old_behind = behind_more changes c old_rest (each_behind (λ (e : Entry). AllBefore changes e.subject) old_run old_rest (subst (AreBefore changes) old_cut m.old_behind)) old_less;
+        new_behind = behind_more changes c new_rest (each_behind (λ (e : Entry). AllBefore changes e.subject) new_run new_rest (subst (AreBefore changes) new_cut m.new_behind)) new_less;
         old_rises = back_rises old_run old_rest old_up;
         new_rises = back_rises new_run new_rest new_up;
       }
@@ -205,7 +203,7 @@ fits_moved before after ordered ordered' moved moved' c h =
 pub in_any_order : (before after ordered ordered' : List Entry) (changes : List Change) → IsPermutation before ordered → IsPermutation after ordered'
     → AreListChanges ordered ordered' changes → AreListChanges before after changes
 in_any_order before after ordered ordered' changes moved moved' are = record {
-  each = all_map (Fits ordered ordered') (Fits before after) (fits_moved before after ordered ordered' moved moved') changes are.each;
+  each = each_weaker (Fits ordered ordered') (Fits before after) (fits_moved before after ordered ordered' moved moved') changes are.each;
   all_before = all_moved (λ (e : Entry). IsTold changes e.subject) before ordered moved are.all_before;
   all_after = all_moved (λ (e : Entry). IsTold changes e.subject) after ordered' moved' are.all_after;
   order = are.order;

@@ -5,6 +5,7 @@ use Rattle.std.specs.Ordering.{ordering_reverse, ordering_then}
 use Rattle.std.specs.Cmp.{IsTotalOrder}
 use Rattle.std.proofs.lemmas.Cmp.{on_total, then_total, tied_itself, upto}
 use Rattle.std.proofs.lemmas.Slice.Eq.{bytes_eq-Decides}
+use Rattle.edi_line.proofs.EachElement.{each_weaker, each_in_front}
 use Rattle.edi_record.specs.Orders.{bytes_cmp}
 use Rattle.edi_schema.specs.Sorted.{NeverFalls}
 use Rattle.edi_manifest.proofs.ByteOrder.{bytes_total, bytes_exact}
@@ -13,25 +14,9 @@ use Rattle.edi_changes.specs.inner.Merging.{AllFrom, IsLeastSubject, IsLedBy, en
 
 -- ---- parts of lists
 
-pub all_map : {X : Type 0} (P Q : X → Type 0) → ((x : X) → P x → Q x) → (xs : List X) → AllByRecursion P xs → AllByRecursion Q xs
-all_map P Q to [] h = tt
-all_map P Q to (x ∷ xs) h = (to x h.0, all_map P Q to xs h.1)
-
-pub all_both : {X : Type 0} (P : X → Type 0) (xs ys : List X) → AllByRecursion P xs → AllByRecursion P ys → AllByRecursion P (xs ++ ys)
-all_both P [] ys h k = k
-all_both P (x ∷ xs) ys h k = (h.0, all_both P xs ys h.1 k)
-
-pub all_front : {X : Type 0} (P : X → Type 0) (xs ys : List X) → AllByRecursion P (xs ++ ys) → AllByRecursion P xs
-all_front P [] ys h = tt
-all_front P (x ∷ xs) ys h = (h.0, all_front P xs ys h.1)
-
-pub all_back : {X : Type 0} (P : X → Type 0) (xs ys : List X) → AllByRecursion P (xs ++ ys) → AllByRecursion P ys
-all_back P [] ys h = h
-all_back P (x ∷ xs) ys h = all_back P xs ys h.1
-
 pub front_rises : (xs ys : List Entry) → NeverFalls entry_cmp (xs ++ ys) → NeverFalls entry_cmp xs
 front_rises [] ys up = tt
-front_rises (x ∷ xs) ys up = (all_front (λ (y : Entry). is_gt (entry_cmp x y) ≡ false) xs ys up.0, front_rises xs ys up.1)
+front_rises (x ∷ xs) ys up = (each_in_front (λ (y : Entry). is_gt (entry_cmp x y) ≡ false) xs ys up.0, front_rises xs ys up.1)
 
 pub back_rises : (xs ys : List Entry) → NeverFalls entry_cmp (xs ++ ys) → NeverFalls entry_cmp ys
 back_rises [] ys up = up
@@ -99,12 +84,12 @@ subject_rises e y h = go (bytes_cmp e.subject y.subject) h
 from_first : (e : Entry) (es : List Entry) → NeverFalls entry_cmp (e ∷ es) → AllFrom e.subject (e ∷ es)
 from_first e es up = (
   ap is_gt (tied_itself bytes_total e.subject),
-  all_map (λ (y : Entry). is_gt (entry_cmp e y) ≡ false) (λ (y : Entry). is_gt (bytes_cmp e.subject y.subject) ≡ false) (subject_rises e) es up.0,
+  each_weaker (λ (y : Entry). is_gt (entry_cmp e y) ≡ false) (λ (y : Entry). is_gt (bytes_cmp e.subject y.subject) ≡ false) (subject_rises e) es up.0,
 )
 
 from_less : (s t : List ℕ) → is_gt (bytes_cmp s t) ≡ false → (es : List Entry) → AllFrom t es → AllFrom s es
 from_less s t h es from =
-    all_map (λ (y : Entry). is_gt (bytes_cmp t y.subject) ≡ false) (λ (y : Entry). is_gt (bytes_cmp s y.subject) ≡ false) (λ y k. upto bytes_total s t y.subject h k) es from
+    each_weaker (λ (y : Entry). is_gt (bytes_cmp t y.subject) ≡ false) (λ (y : Entry). is_gt (bytes_cmp s y.subject) ≡ false) (λ y k. upto bytes_total s t y.subject h k) es from
 
 pub least_behind : (entries : List Entry) (e : Entry) (es : List Entry) → entries ≡ e ∷ es → NeverFalls entry_cmp entries → IsLeastSubject e.subject [] entries
 least_behind entries e es cut up =
@@ -153,7 +138,7 @@ behind_is s (e ∷ es) up from = go (bytes_eq e.subject s) refl (behind_is s es 
     go false is more =
         let less : bytes_cmp s e.subject ≡ Less = less_if_other s e.subject from.0 is in (
           less,
-          all_map (λ (y : Entry). is_gt (entry_cmp e y) ≡ false) (λ (y : Entry). bytes_cmp s y.subject ≡ Less)
+          each_weaker (λ (y : Entry). is_gt (entry_cmp e y) ≡ false) (λ (y : Entry). bytes_cmp s y.subject ≡ Less)
               (λ y k. less_than_more s e.subject y.subject less (subject_rises e y k)) es up.0,
         )
 

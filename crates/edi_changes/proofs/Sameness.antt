@@ -5,6 +5,7 @@ use Rattle.std.specs.Ordering.{ordering_reverse}
 use Rattle.std.proofs.lemmas.Bool.{and_parts}
 use Rattle.std.proofs.lemmas.List.Sorted.{IsPermutation-sym, IsPermutation-trans}
 use Rattle.std.proofs.lemmas.Slice.Eq.{bytes_eq-Decides}
+use Rattle.edi_line.proofs.EachElement.{each_weaker}
 use Rattle.edi_record.specs.Orders.{bytes_cmp}
 use Rattle.edi_schema.specs.Sorted.{NeverFalls, sort_by}
 use Rattle.edi_schema.proofs.SortedLists.{IsPermutation-sort_by, NeverFalls-sort_by, sort_by-in_order}
@@ -16,7 +17,7 @@ use Rattle.edi_changes.specs.declared.changes.Fate.{Fate}
 use Rattle.edi_changes.specs.declared.changes.Fate.TheVariants.{New, Gone, Changed, Same}
 use Rattle.edi_changes.specs.declared.entry.Entry.{Entry}
 use Rattle.edi_changes.specs.inner.Merging.{digest_in, entry_cmp}
-use Rattle.edi_changes.proofs.Orders.{all_map, entry_total, less_is_other, less_than_more, subject_rises}
+use Rattle.edi_changes.proofs.Orders.{entry_total, less_is_other, less_than_more, subject_rises}
 use Rattle.edi_changes.proofs.Digests.{digests_moved, filter_none, is_of, run_rises}
 
 -- ---- the digests of a list in order
@@ -65,7 +66,7 @@ none_less : (s : List ℕ) (f : Entry) (fs : List Entry) → bytes_cmp s f.subje
 none_less s f fs less up =
     ap (map digest_in) (filter_none (is_of s) (f ∷ fs) (
       less_is_other s f.subject less,
-      all_map (λ (y : Entry). is_gt (entry_cmp f y) ≡ false) (λ (y : Entry). is_of s y ≡ false)
+      each_weaker (λ (y : Entry). is_gt (entry_cmp f y) ≡ false) (λ (y : Entry). is_of s y ≡ false)
           (λ y k. less_is_other s y.subject (less_than_more s f.subject y.subject less (subject_rises f y k))) fs up.0,
     ))
 
@@ -121,7 +122,7 @@ same_told before after s (c ∷ cs) same each told = go (bytes_eq s c.subject) r
 
 untold : (cs : List Change) (s : List ℕ) (es : List Entry) → list_any (λ (x : Change). bytes_eq s x.subject) cs ≡ false → AllByRecursion (λ (e : Entry). IsTold cs e.subject) es → digests_of s es ≡ []
 untold cs s es none told = ap (λ (l : List Entry). sort_by bytes_cmp (map digest_in l)) (filter_none (is_of s) es
-    (all_map (λ (e : Entry). IsTold cs e.subject) (λ (e : Entry). is_of s e ≡ false) apart es told))
+    (each_weaker (λ (e : Entry). IsTold cs e.subject) (λ (e : Entry). is_of s e ≡ false) apart es told))
   where
     apart : (e : Entry) → IsTold cs e.subject → is_of s e ≡ false
     apart e t = go (bytes_eq s e.subject) refl
@@ -158,7 +159,7 @@ only_same Same d e is h = refl
 
 pub moved_is_same : (before after : List Entry) (cs : List Change) → AreListChanges before after cs → IsPermutation before after → AllSame cs
 moved_is_same before after cs are moved =
-    all_map (λ (c : Change). IsFate c.fate (digests_of c.subject before) (digests_of c.subject after)) (λ (c : Change). c.fate ≡ Same)
+    each_weaker (λ (c : Change). IsFate c.fate (digests_of c.subject before) (digests_of c.subject after)) (λ (c : Change). c.fate ≡ Same)
     (λ c h. only_same c.fate (digests_of c.subject before) (digests_of c.subject after) (sym (digests_moved c.subject before after moved)) h) cs are.each
 
 -- ---- the status

@@ -1,9 +1,11 @@
 -- Equality of points, extra zones and attributes is decided by what `==` tells.
-use Rattle.std.proofs.Common.{◌≡◌, ◌≢◌, ℕ, suc, ◌<◌, Bool, true, false, not, true≢false, Decides, List, [], ◌∷◌, length, get_or, arith, Ordering, Less, Equal, Greater, is_eq, refl, sym, ap, ◌∙◌, IsPermutation, subst}
+use Rattle.std.proofs.Common.{◌≡◌, ◌≢◌, ℕ, suc, ◌<◌, Bool, true, false, not, true≢false, Decides, List, [], ◌∷◌, length, get_or, arith, Ordering, is_eq, refl, sym, ap, ◌∙◌, IsPermutation, subst}
 use Rattle.std.specs.Cmp.{IsTotalOrder}
 use Rattle.std.proofs.lemmas.Cmp.{tied_itself}
 use Rattle.std.proofs.lemmas.List.Sorted.{IsPermutation-sym, IsPermutation-trans}
 use Rattle.std.proofs.lemmas.Map.Lookups.{CmpEqualImpliesEq}
+use Rattle.std.proofs.lemmas.Bool.{not-false}
+use Rattle.edi_line.proofs.Truths.{equal_is}
 use Rattle.edi_record.specs.declared.record.Extra.{Extra}
 use Rattle.edi_record.specs.declared.record.Point.{Point}
 use Rattle.edi_record.specs.contracts.record.ExtraOrd.TheImpl.{ghosts as extras}
@@ -22,16 +24,11 @@ use Rattle.edi_plan.specs.contracts.record.PlanAttributePartialEq.TheImpl.{ghost
 use Rattle.edi_plan.proofs.DerivedOrders.{attribute_order}
 use Rattle.edi_plan.proofs.Orders.{point_total, point_exact, extra_total, extra_exact, attribute_total, attribute_exact}
 
-is_tied : (o : Ordering) → is_eq o ≡ true → o ≡ Equal
-is_tied Less e = absurd (true≢false (sym e))
-is_tied Equal e = refl
-is_tied Greater e = absurd (true≢false (sym e))
-
 -- what `==` says, where an order whose ties are equal agrees with it
 pub decided : {X : Type 0} (eq : X → X → Bool) (below cmp : X → X → Ordering) → ((a b : X) → eq a b ≡ is_eq (below a b)) → ((a b : X) → below a b ≡ cmp a b)
     → IsTotalOrder cmp → CmpEqualImpliesEq cmp → (a b : X) → Decides (eq a b) (a ≡ b)
 decided eq below cmp ties same total exact a b = (
-  λ t. exact a b (sym (same a b) ∙ is_tied (below a b) (sym (ties a b) ∙ t)),
+  λ t. exact a b (sym (same a b) ∙ equal_is (below a b) (sym (ties a b) ∙ t)),
   λ e. ties a b ∙ ap is_eq (same a b ∙ (ap (cmp a) (sym e) ∙ tied_itself total a)),
 )
 
@@ -44,13 +41,9 @@ extra_decided = decided extra_eq.eq extras.cmp _ extra_laws.matches_eq extra_ord
 pub attribute_decided : (a b : PlanAttribute) → Decides (attribute_eq.eq a b) (a ≡ b)
 attribute_decided = decided attribute_eq.eq attributes.cmp _ attribute_laws.matches_eq attribute_order attribute_total attribute_exact
 
-not_false : (b : Bool) → not b ≡ false → b ≡ true
-not_false true e = refl
-not_false false e = absurd (true≢false e)
-
 -- what `!=` says of points
 pub same_point : (a b : Point) (r : Bool) → r ≡ not (point_eq.eq a b) → r ≡ false → a ≡ b
-same_point a b r is e = (point_decided a b).0 (not_false (point_eq.eq a b) (sym is ∙ e))
+same_point a b r is e = (point_decided a b).0 (not-false (point_eq.eq a b) (sym is ∙ e))
 
 pub other_point : (a b : Point) (r : Bool) → r ≡ not (point_eq.eq a b) → r ≡ true → a ≢ b
 other_point a b r is e same = true≢false (sym e ∙ (is ∙ ap not ((point_decided a b).1 same)))

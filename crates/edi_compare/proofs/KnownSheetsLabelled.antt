@@ -4,14 +4,15 @@ use Rattle.std.specs.Prelude.{slice_get, nat_eq, nat_lt, nat_le}
 use Rattle.std.specs.Option.{option_cmp}
 use Rattle.std.specs.Ordering.{is_lt, is_gt}
 use Rattle.std.specs.declared.cmp.Ordering.{Ordering}
-use Rattle.std.proofs.lemmas.Bool.{ltb-true, lt-ltb, leb-true}
+use Rattle.std.proofs.lemmas.Bool.{ltb-true, lt-ltb, leb-true, not-true, and_parts}
 use Rattle.std.proofs.lemmas.Option.{same_Some}
+use Rattle.std.proofs.lemmas.List.{nil_from_length}
+use Rattle.edi_line.proofs.Truths.{less_is}
 use Rattle.edi_record.specs.Orders.{points_cmp}
 use Rattle.edi_record.specs.declared.record.Kind.{Kind}
 use Rattle.edi_record.specs.declared.record.Kind.TheVariants.{Pno, Par, Pfe, Fea, Lnk}
 use Rattle.edi_schema.specs.Classes.{Classes}
 use Rattle.edi_plan.specs.Plans.{PlanData, IsPlace, record_at, same_kind, others_of, kind_rank}
-use Rattle.edi_plan.proofs.Built.{both_true}
 use Rattle.edi_plan.proofs.PlaceLemmas.{one_kind}
 use Rattle.edi_topo.specs.NodeKeys.{node_key, node_key_cmp}
 use Rattle.edi_rank.specs.EndOrder.{OthersInOrder, PutsInOrder, positions_at}
@@ -20,7 +21,7 @@ use Rattle.edi_rank.specs.Keys.{link_key_cmp, object_key_cmp, face_key_cmp, link
 use Rattle.edi_rank.specs.Labelling.{Labelling, AreLabels, number_of, order_of, turned_at, turned_by}
 use Rattle.edi_rank.specs.Turned.{is_backward}
 use Rattle.edi_rank.proofs.OthersSorted.{few_in_order}
-use Rattle.edi_compare.proofs.KnownSheetsTests.{all_below, true_below, less_is, is_same, same_said, not_true}
+use Rattle.edi_compare.proofs.KnownSheetsTests.{all_below, true_below, is_same, same_said}
 
 -- ---- tests
 
@@ -46,10 +47,6 @@ kind_itself Pfe = refl
 kind_itself Fea = refl
 kind_itself Lnk = refl
 
-none_at : {X : Type 0} (xs : List X) → length xs ≡ 0 → xs ≡ []
-none_at [] e = refl
-none_at (x ∷ xs) e = absurd (omega (arith, e))
-
 -- ---- the labels of a plan
 
 module _ (s : Classes) (p : PlanData) (l : Labelling) where
@@ -71,14 +68,14 @@ module _ (s : Classes) (p : PlanData) (l : Labelling) where
       → IsPlace p k × ((record_at p k).kind ≡ kind) × (number k ≡ i + from)
   placed_at kind from [] e i k there = cc
   placed_at kind from (j ∷ ks) e zero k there =
-      let here = both_true (is_placed kind from j) (are_placed kind (from + 1) ks) e in
+      let here = and_parts (is_placed kind from j) (are_placed kind (from + 1) ks) e in
       let parts : is_placed kind from k ≡ true = subst (λ m. is_placed kind from m ≡ true) (same_Some j k there) here.0 in
-      let within = both_true (nat_lt k (length p.list)) (same_kind (record_at p k).kind kind && nat_eq (number k) from) parts in
-      let rest = both_true (same_kind (record_at p k).kind kind) (nat_eq (number k) from) within.1 in
+      let within = and_parts (nat_lt k (length p.list)) (same_kind (record_at p k).kind kind && nat_eq (number k) from) parts in
+      let rest = and_parts (same_kind (record_at p k).kind kind) (nat_eq (number k) from) within.1 in
       let numbered = eqb-true (number k) from rest.1 in
       (ltb-true k (length p.list) within.0, kind_said (record_at p k).kind kind rest.0, omega (arith, numbered))
   placed_at kind from (j ∷ ks) e (suc i) k there =
-      let found = placed_at kind (from + 1) ks (both_true (is_placed kind from j) (are_placed kind (from + 1) ks) e).1 i k there in
+      let found = placed_at kind (from + 1) ks (and_parts (is_placed kind from j) (are_placed kind (from + 1) ks) e).1 i k there in
       let numbered = found.2 in
       (found.0, found.1, omega (arith, numbered))
 
@@ -152,13 +149,13 @@ module _ (s : Classes) (p : PlanData) (l : Labelling) where
       arcs = λ i k both. less_is (arc_order i k) (risen Par (λ i k. is_lt (arc_order i k)) e.arcs i k both);
       faces = λ i k both. less_is (face_order i k) (risen Pfe (λ i k. is_lt (face_order i k)) e.faces i k both);
       objects = λ i k both. less_is (object_order i k) (risen Fea (λ i k. is_lt (object_order i k)) e.objects i k both);
-      links = λ i k both. not_true (is_gt (link_order i k)) (risen Lnk (λ i k. not (is_gt (link_order i k))) e.links i k both);
+      links = λ i k both. not-true (is_gt (link_order i k)) (risen Lnk (λ i k. not (is_gt (link_order i k))) e.links i k both);
     }
 
     others_hold : (k : ℕ) → IsPlace p k → OthersInOrder p number l.others k
     others_hold k h =
-        let short = both_true (nat_eq (length (positions_at l.others k)) 0) (nat_lt (length (others_of (record_at p k))) 2) (true_below (length p.list) is_short e.others k h) in
-        subst (λ order. PutsInOrder p number order (others_of (record_at p k))) (sym (none_at (positions_at l.others k) (eqb-true (length (positions_at l.others k)) 0 short.0)))
+        let short = and_parts (nat_eq (length (positions_at l.others k)) 0) (nat_lt (length (others_of (record_at p k))) 2) (true_below (length p.list) is_short e.others k h) in
+        subst (λ order. PutsInOrder p number order (others_of (record_at p k))) (sym (nil_from_length (positions_at l.others k) (eqb-true (length (positions_at l.others k)) 0 short.0)))
         (few_in_order p number (others_of (record_at p k)) (ltb-true (length (others_of (record_at p k))) 2 short.1))
 
     pub labels_as : AreLabels s p l

@@ -1,6 +1,7 @@
 -- What a known file states, by computing.
 use Rattle.std.proofs.Common.{◌≡◌, sym, subst, ap, refl, ℕ, Bool, true, List, [], ◌∷◌, ◌++◌, length, map, Option, Some, None, option_map, is_none, codes, cond, arith}
 use Rattle.std.specs.List.{AllZip, list_all}
+use Rattle.std.proofs.lemmas.Bool.{and_parts}
 use Rattle.edi_line.specs.ZoneData.{ZoneData}
 use Rattle.edi_line.specs.Feeding.{seen_in}
 use Rattle.edi_line.specs.Refusal.{IsUnbroken}
@@ -31,7 +32,6 @@ use Rattle.edi_plan.specs.Plans.{PlanData, rest_of}
 use Rattle.edi_plan.specs.PlanOf.{place_named, StatesPlanAttribute, StatesPlanEnd, StatesPlanRecord}
 use Rattle.edi_plan.specs.declared.record.PlanEnd.{PlanEnd}
 use Rattle.edi_plan.specs.declared.record.PlanRecord.{PlanRecord}
-use Rattle.edi_plan.proofs.Built.{both_true}
 use Rattle.edi_plan.proofs.RuleLemmas.{none_is}
 use Rattle.edi_compare.specs.PlanOfFile.{IsSheetOf, IsPlanOfFile}
 use Rattle.edi_compare.specs.Rules.{RecordsHold}
@@ -132,8 +132,8 @@ abbrev pub keeps_rules : List ZoneData → Bool
 keeps_rules group = is_none (first_broken (record_tests group))
 
 all_at : {X : Type 0} (test : X → Bool) (before : List X) (x : X) (after : List X) → list_all test (before ++ x ∷ after) ≡ true → test x ≡ true
-all_at test [] x after e = (both_true _ _ e).0
-all_at test (b ∷ before) x after e = all_at test before x after (both_true _ _ e).1
+all_at test [] x after e = (and_parts _ _ e).0
+all_at test (b ∷ before) x after e = all_at test before x after (and_parts _ _ e).1
 
 groups_unbroken : (zones : List ZoneData) → list_all keeps_rules (groups_of zones) ≡ true → IsUnbroken (BreaksRecordRule zones)
 groups_unbroken zones e = records_unbroken zones fails

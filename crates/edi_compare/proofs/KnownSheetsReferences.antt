@@ -1,10 +1,11 @@
 -- That known records break no rule of references, by computing.
-use Rattle.std.proofs.Common.{◌≡◌, ◌≢◌, ◌∙◌, sym, subst, ap, refl, ℕ, zero, suc, ◌-◌, ◌<◌, ◌≤◌, ◌⊎◌, inl, inr, Bool, true, false, not, ◌&&◌, ◌||◌, cond, List, [], ◌∷◌, length, Option, Some, None, option_map, is_some, is_none, unwrap_or, Any, arith, true≢false, eqb-true}
+use Rattle.std.proofs.Common.{◌≡◌, ◌≢◌, ◌∙◌, sym, subst, ap, refl, ℕ, zero, suc, ◌-◌, ◌<◌, ◌⊎◌, inl, inr, Bool, true, false, not, ◌&&◌, ◌||◌, cond, List, [], ◌∷◌, Option, Some, None, option_map, is_some, Any, arith, true≢false, eqb-true}
 use Rattle.std.specs.List.{list_all, list_any}
 use Rattle.std.specs.Prelude.{slice_get, nat_eq, nat_lt, option_and_then}
 use Rattle.std.specs.Str.{bytes_eq}
 use Rattle.std.proofs.lemmas.Option.{same_Some}
 use Rattle.std.proofs.lemmas.Slice.Eq.{bytes_eq-Decides}
+use Rattle.std.proofs.lemmas.Bool.{and_from, and_parts}
 use Rattle.edi_line.specs.Refusal.{IsUnbroken}
 use Rattle.edi_record.specs.declared.name.Name.{Name}
 use Rattle.edi_record.specs.LinkEnds.{EndData}
@@ -21,7 +22,6 @@ use Rattle.edi_plan.specs.PlanOf.{own_name, place_named}
 use Rattle.edi_plan.specs.ReferenceRules.{BreaksReferenceRule, IsRecordAt, Names, IsLinkOfRole, JoinsArcTo}
 use Rattle.edi_plan.specs.ReferenceRules.BreaksReferenceRule.{repeats_name, lacks_class, lacks_attribute_class, leaves_subset, names_nothing, joins_wrong, repeats_side}
 use Rattle.edi_plan.specs.inner.Resolving.{HasNoAttributeClass, lacks_class as lacks_class_of, leaves, first_subset, is_elsewhere}
-use Rattle.edi_plan.proofs.Built.{both_true}
 use Rattle.edi_plan.proofs.PlaceLemmas.{one_kind}
 use Rattle.edi_plan.proofs.RuleLemmas.{any_true, lacks_true, elsewhere_true}
 
@@ -29,8 +29,8 @@ use Rattle.edi_plan.proofs.RuleLemmas.{any_true, lacks_true, elsewhere_true}
 
 at_true : {X : Type 0} (test : X → Bool) (list : List X) (i : ℕ) (r : X) → list_all test list ≡ true → slice_get list i ≡ Some r → test r ≡ true
 at_true test [] i r e there = absurd cc
-at_true test (x ∷ xs) zero r e there = subst (λ y. test y ≡ true) (same_Some x r there) (both_true _ _ e).0
-at_true test (x ∷ xs) (suc i) r e there = at_true test xs i r (both_true _ _ e).1 there
+at_true test (x ∷ xs) zero r e there = subst (λ y. test y ≡ true) (same_Some x r there) (and_parts _ _ e).0
+at_true test (x ∷ xs) (suc i) r e there = at_true test xs i r (and_parts _ _ e).1 there
 
 abbrev each_pair : {X : Type 0} → (X → X → Bool) → List X → Bool
 each_pair test [] = true
@@ -39,19 +39,16 @@ each_pair test (x ∷ xs) = list_all (test x) xs && each_pair test xs
 pair_true : {X : Type 0} (test : X → X → Bool) (list : List X) (i k : ℕ) (q r : X) → each_pair test list ≡ true → i < k → slice_get list i ≡ Some q → slice_get list k ≡ Some r → test q r ≡ true
 pair_true test [] i k q r e less first second = absurd cc
 pair_true test (x ∷ xs) zero zero q r e less first second = absurd (omega (arith, less))
-pair_true test (x ∷ xs) zero (suc k) q r e less first second = subst (λ y. test y r ≡ true) (same_Some x q first) (at_true (test x) xs k r (both_true _ _ e).0 second)
+pair_true test (x ∷ xs) zero (suc k) q r e less first second = subst (λ y. test y r ≡ true) (same_Some x q first) (at_true (test x) xs k r (and_parts _ _ e).0 second)
 pair_true test (x ∷ xs) (suc i) zero q r e less first second = absurd (omega (arith, less))
-pair_true test (x ∷ xs) (suc i) (suc k) q r e less first second = pair_true test xs i k q r (both_true _ _ e).1 (omega (arith, less)) first second
+pair_true test (x ∷ xs) (suc i) (suc k) q r e less first second = pair_true test xs i k q r (and_parts _ _ e).1 (omega (arith, less)) first second
 
 unless : (b : Bool) → not b ≡ true → b ≡ true → ⊥
 unless true h t = true≢false (sym h)
 unless false h t = true≢false (sym t)
 
-both_and : (a b : Bool) → a ≡ true → b ≡ true → a && b ≡ true
-both_and a b h g = ap (λ x. x && b) h ∙ g
-
 same_name : (a b : Name) → a ≡ b → is_name a b ≡ true
-same_name a b e = both_and (bytes_eq a.rty b.rty) (bytes_eq a.rid b.rid)
+same_name a b e = and_from (bytes_eq a.rty b.rty) (bytes_eq a.rid b.rid)
     ((bytes_eq-Decides a.rty b.rty).1 (ap (λ (n : Name). n.rty) e)) ((bytes_eq-Decides a.rid b.rid).1 (ap (λ (n : Name). n.rid) e))
 
 module _ (s : Classes) (list : List Record) where
@@ -119,7 +116,7 @@ module _ (s : Classes) (list : List Record) where
     where
       two : (d e : EndData) → ((r.ends ≡ d ∷ e ∷ []) ⊎ (r.ends ≡ e ∷ d ∷ [])) → is_join kind d e ≡ true → JoinsArcTo s list kind r
       two d e ends t =
-          let kinds = both_true (is_some_kind Par (end_kind d)) (is_some_kind kind (end_kind e)) t in
+          let kinds = and_parts (is_some_kind Par (end_kind d)) (is_some_kind kind (end_kind e)) t in
           let arc = of_kind Par d kinds.0 in
           let other = of_kind kind e kinds.1 in
           (d, e, arc.0, other.0, ends, arc.1, other.1)

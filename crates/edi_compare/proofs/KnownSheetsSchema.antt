@@ -1,11 +1,12 @@
 -- That known classes are a schema, by computing.
 use Rattle.std.proofs.Common.{◌≡◌, refl, ℕ, Bool, true, false, ◌&&◌, List, [], ◌∷◌, arith, true≢false, eqb-true}
-use Rattle.std.proofs.lemmas.Bool.{leb-true}
+use Rattle.std.proofs.lemmas.Bool.{leb-true, and_parts}
 use Rattle.std.specs.Prelude.{nat_le, length, nat_eq, count_by}
 use Rattle.std.specs.List.{list_all, list_any}
 use Rattle.std.specs.Map.{keys_of}
 use Rattle.std.specs.Ordering.{is_lt}
 use Rattle.std.specs.declared.cmp.Ordering.TheVariants.{Less}
+use Rattle.edi_line.proofs.Truths.{less_is}
 use Rattle.edi_record.specs.declared.name.Name.{Name}
 use Rattle.edi_schema.specs.Classes.{Classes, IsSchema, IsLetter, IsReadName, name_cmp, has_role, is_pointable}
 use Rattle.edi_schema.specs.Roles.{is_plain, exchanged}
@@ -13,9 +14,8 @@ use Rattle.edi_schema.specs.Sorted.{AlwaysRises}
 use Rattle.edi_schema.specs.declared.class.Class.{Class}
 use Rattle.edi_schema.specs.declared.role.Role.{Role}
 use Rattle.edi_schema.specs.declared.role.Role.TheVariants.{Initial, Final, Left, Right, Plain}
-use Rattle.edi_plan.proofs.Built.{both_true}
 use Rattle.edi_compare.specs.Known.{arc_classes}
-use Rattle.edi_compare.proofs.KnownSheetsTests.{all_said, less_is, has_none, none_is, is_same, same_said}
+use Rattle.edi_compare.proofs.KnownSheetsTests.{all_said, has_none, none_is, is_same, same_said}
 
 abbrev rises : List Name → Bool
 rises [] = true
@@ -24,7 +24,7 @@ rises (x ∷ xs) = list_all (λ y. is_lt (name_cmp x y)) xs && rises xs
 always_rises : (names : List Name) → rises names ≡ true → AlwaysRises name_cmp names
 always_rises [] e = tt
 always_rises (x ∷ xs) e =
-    let both = both_true (list_all (λ y. is_lt (name_cmp x y)) xs) (rises xs) e in
+    let both = and_parts (list_all (λ y. is_lt (name_cmp x y)) xs) (rises xs) e in
     (all_said (λ y. name_cmp x y ≡ Less) (λ y. is_lt (name_cmp x y)) (λ y h. less_is (name_cmp x y) h) xs both.0, always_rises xs both.1)
 
 abbrev is_readable : Name × Class → Bool
@@ -32,8 +32,8 @@ is_readable e = has_none 10 e.0.rty && (has_none 10 e.0.rid && has_none 59 e.0.r
 
 is_read : (e : Name × Class) → is_readable e ≡ true → IsReadName e.0
 is_read e h =
-    let rty = both_true (has_none 10 e.0.rty) (has_none 10 e.0.rid && has_none 59 e.0.rid) h in
-    let rid = both_true (has_none 10 e.0.rid) (has_none 59 e.0.rid) rty.1 in
+    let rty = and_parts (has_none 10 e.0.rty) (has_none 10 e.0.rid && has_none 59 e.0.rid) h in
+    let rid = and_parts (has_none 10 e.0.rid) (has_none 59 e.0.rid) rty.1 in
     (none_is 10 e.0.rty rty.0, none_is 10 e.0.rid rid.0, none_is 59 e.0.rid rid.1)
 
 abbrev is_letter : Name × Class → Bool
@@ -47,13 +47,13 @@ kind_true : (test : Role → Bool) → each_kind test ≡ true → (role : Role)
 kind_true test e role h = go role h
   where
     first : (test Initial ≡ true) × (test Final && (test Left && test Right) ≡ true)
-    first = both_true (test Initial) (test Final && (test Left && test Right)) e
+    first = and_parts (test Initial) (test Final && (test Left && test Right)) e
 
     second : (test Final ≡ true) × (test Left && test Right ≡ true)
-    second = both_true (test Final) (test Left && test Right) first.1
+    second = and_parts (test Final) (test Left && test Right) first.1
 
     third : (test Left ≡ true) × (test Right ≡ true)
-    third = both_true (test Left) (test Right) second.1
+    third = and_parts (test Left) (test Right) second.1
 
     go : (role : Role) → is_plain role ≡ false → test role ≡ true
     go Initial h = first.0

@@ -3,14 +3,11 @@ use Rattle.std.proofs.Common.{◌≡◌, ◌∙◌, sym, ap, refl, ℕ, zero, su
 use Rattle.std.specs.List.{AllByRecursion, list_all}
 use Rattle.std.specs.Ordering.{is_lt}
 use Rattle.std.specs.Prelude.{All, nat_eq, nat_lt, ◌==◌}
-use Rattle.std.specs.declared.cmp.Ordering.{Ordering}
-use Rattle.std.specs.declared.cmp.Ordering.TheVariants.{Less, Equal, Greater}
-use Rattle.std.proofs.lemmas.Bool.{ltb-true}
+use Rattle.std.proofs.lemmas.Bool.{ltb-true, not-true, and_parts}
 use Rattle.std.proofs.lemmas.List.Elements.{All-from_recursion}
 use Rattle.edi_line.specs.Bytes.{IsBytes}
 use Rattle.edi_record.specs.Orders.{points_cmp}
 use Rattle.edi_record.specs.declared.record.Point.{Point}
-use Rattle.edi_plan.proofs.Built.{both_true}
 
 -- ---- facts of each number below another
 
@@ -29,8 +26,8 @@ all_below (suc n) test = test zero && all_below n (λ k. test (suc k))
 
 pub true_below : (n : ℕ) (test : ℕ → Bool) → all_below n test ≡ true → (k : ℕ) → k < n → test k ≡ true
 true_below zero test e k h = absurd (omega (arith, h))
-true_below (suc n) test e zero h = (both_true _ _ e).0
-true_below (suc n) test e (suc k) h = true_below n (λ j. test (suc j)) (both_true _ _ e).1 k (omega (arith, h))
+true_below (suc n) test e zero h = (and_parts _ _ e).0
+true_below (suc n) test e (suc k) h = true_below n (λ j. test (suc j)) (and_parts _ _ e).1 k (omega (arith, h))
 
 -- the only one that passes
 pub only_one : (n : ℕ) (test : ℕ → Bool) (one : ℕ) → all_below n (λ k. not (test k) || nat_eq k one) ≡ true → (k : ℕ) → k < n → test k ≡ true → k ≡ one
@@ -44,12 +41,7 @@ only_one n test one e k h passes = go (test k) passes (true_below n (λ j. not (
 
 pub all_said : {X : Type 0} (P : X → Type 0) (test : X → Bool) → ((x : X) → test x ≡ true → P x) → (xs : List X) → list_all test xs ≡ true → AllByRecursion P xs
 all_said P test say [] e = tt
-all_said P test say (x ∷ xs) e = let both = both_true (test x) (list_all test xs) e in (say x both.0, all_said P test say xs both.1)
-
-pub less_is : (o : Ordering) → is_lt o ≡ true → o ≡ Less
-less_is Less e = refl
-less_is Equal e = absurd (true≢false (sym e))
-less_is Greater e = absurd (true≢false (sym e))
+all_said P test say (x ∷ xs) e = let both = and_parts (test x) (list_all test xs) e in (say x both.0, all_said P test say xs both.1)
 
 -- the same of two answers
 abbrev pub is_same : Bool → Bool → Bool
@@ -66,13 +58,9 @@ same_said false false e = refl
 abbrev pub has_none : ℕ → List ℕ → Bool
 has_none byte text = list_all (λ c. not (c == byte)) text
 
-pub not_true : (b : Bool) → not b ≡ true → b ≡ false
-not_true true e = absurd (true≢false (sym e))
-not_true false e = refl
-
 pub none_is : (byte : ℕ) (text : List ℕ) → has_none byte text ≡ true → All (λ c. (c == byte) ≡ false) text
 none_is byte text e =
-    All-from_recursion (λ c. (c == byte) ≡ false) text (all_said (λ c. (c == byte) ≡ false) (λ c. not (c == byte)) (λ c h. not_true (c == byte) h) text e)
+    All-from_recursion (λ c. (c == byte) ≡ false) text (all_said (λ c. (c == byte) ≡ false) (λ c. not (c == byte)) (λ c h. not-true (c == byte) h) text e)
 
 pub bytes_of : (xs : List ℕ) → list_all (λ x. nat_lt x 256) xs ≡ true → IsBytes xs
 bytes_of xs e = All-from_recursion (λ x. x < 256) xs (all_said (λ x. x < 256) (λ x. nat_lt x 256) (λ x h. ltb-true x 256 h) xs e)

@@ -7,11 +7,12 @@ use Rattle.std.specs.Cmp.Lexicographic.{options_total}
 use Rattle.std.proofs.lemmas.Cmp.{then_total, on_total, nat_cmp_total}
 use Rattle.std.proofs.lemmas.List.Sorted.{IsPermutation-refl, IsPermutation-map}
 use Rattle.std.proofs.lemmas.Map.Lookups.{CmpEqualImpliesEq, exact_unsigned}
+use Rattle.edi_line.proofs.Truths.{first_tied, then_tied}
 use Rattle.edi_record.specs.Orders.{bytes_cmp, text_cmp}
 use Rattle.edi_schema.specs.Sorted.{sort_by}
 use Rattle.edi_plan.specs.Plans.{first_of, rest_of}
 use Rattle.edi_plan.specs.declared.record.PlanEnd.{PlanEnd}
-use Rattle.edi_plan.proofs.Orders.{first_tied, then_tied, exact_options, bytes_total, bytes_exact}
+use Rattle.edi_plan.proofs.Orders.{exact_options, bytes_total, bytes_exact}
 use Rattle.edi_rank.specs.Same.{moved}
 use Rattle.edi_rank.proofs.SameLaws.{map-map}
 use Rattle.edi_compare.specs.inner.Checking.{placed_end}

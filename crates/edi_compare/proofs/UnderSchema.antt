@@ -1,35 +1,11 @@
--- What is known of the bytes of a schema, or of a sheet, that were read is known of those that the devices hold.
+-- What is known of the bytes of a sheet that were read is known of those that the device holds.
 use Rattle.std.proofs.Common.{◌≡◌, ℕ, List, Result, Ok, Err, IfOk, IfErr, Option, Some, None, IfSome, subst}
 use Rattle.edi_schema.specs.Classes.{Classes}
-use Rattle.edi_schema.specs.Roles.{KindCodes}
 use Rattle.edi_compare.specs.declared.fault.RunFault.{RunFault}
 use Rattle.edi_compare.specs.declared.fault.RunFault.TheVariants.{Memory, Read, TooLong, Schema, First, Second, Write}
 use Rattle.edi_compare.specs.Refused.{IsProper, IsRefusal}
-use Rattle.edi_compare.specs.Runs.{MatchFault, RefusesSchema, IfBothKnown}
+use Rattle.edi_compare.specs.Runs.{MatchFault}
 use Rattle.edi_compare.specs.inner.Under.{UnderSchema}
-use Rattle.edi_compare.proofs.ThreeKnown.{both_known}
-
-pub both_ok : {X : Type 0} (r : Result X RunFault) (a b : Option (List ℕ)) (x y : List ℕ) (P : X → List ℕ → List ℕ → Type 0)
-    → IfSome a (λ t. x ≡ t) → IfSome b (λ t. y ≡ t) → IfOk r (λ o. P o x y) → IfOk r (λ o. IfBothKnown a b (P o))
-both_ok (Ok o) a b x y P h k p = both_known a b x y (P o) h k p
-both_ok (Err e) a b x y P h k p = tt
-
-schema_fault : (kinds : KindCodes) (e : RunFault) (a b : Option (List ℕ)) (x y : List ℕ) (R T : ℕ → Type 0) → IfSome a (λ t. x ≡ t) → IfSome b (λ t. y ≡ t)
-    → MatchFault e (λ _. ⊥) (λ _. ⊥) (RefusesSchema kinds x y) (λ _. ⊥) (λ _. ⊥) (λ _. ⊥)
-    → MatchFault e R T (λ f. IfBothKnown a b (λ s d. RefusesSchema kinds s d f)) (λ _. ⊥) (λ _. ⊥) (λ _. ⊥)
-schema_fault kinds (Memory e) a b x y R T h k p = tt
-schema_fault kinds (Read i) a b x y R T h k p = absurd p
-schema_fault kinds (TooLong i) a b x y R T h k p = absurd p
-schema_fault kinds (Schema f) a b x y R T h k p = both_known a b x y (λ s d. RefusesSchema kinds s d f) h k p
-schema_fault kinds (First f) a b x y R T h k p = absurd p
-schema_fault kinds (Second f) a b x y R T h k p = absurd p
-schema_fault kinds (Write w) a b x y R T h k p = absurd p
-
-pub both_err : {X : Type 0} (kinds : KindCodes) (r : Result X RunFault) (a b : Option (List ℕ)) (x y : List ℕ) (R T : ℕ → Type 0) → IfSome a (λ t. x ≡ t) → IfSome b (λ t. y ≡ t)
-    → IfErr r (λ e. MatchFault e (λ _. ⊥) (λ _. ⊥) (RefusesSchema kinds x y) (λ _. ⊥) (λ _. ⊥) (λ _. ⊥))
-    → IfErr r (λ e. MatchFault e R T (λ f. IfBothKnown a b (λ s d. RefusesSchema kinds s d f)) (λ _. ⊥) (λ _. ⊥) (λ _. ⊥))
-both_err kinds (Ok o) a b x y R T h k p = tt
-both_err kinds (Err e) a b x y R T h k p = schema_fault kinds e a b x y R T h k p
 
 some : (a : Option (List ℕ)) (x : List ℕ) (P : List ℕ → Type 0) → IfSome a (λ t. x ≡ t) → P x → IfSome a P
 some None x P h p = tt

@@ -1,11 +1,10 @@
 -- The layout of a plan of bytes under a schema of bytes is bytes.
-use Rattle.std.proofs.Common.{◌≡◌, ℕ, zero, suc, ◌<◌, ◌^◌, Bool, List, [], ◌∷◌, map, Some, slice_get, IsPermutation, refl, sym, ◌∙◌, subst, arith}
+use Rattle.std.proofs.Common.{◌≡◌, ℕ, zero, suc, ◌<◌, ◌^◌, Bool, List, [], ◌∷◌, map, Some, slice_get, refl, sym, ◌∙◌, subst, arith}
 use Rattle.std.specs.Prelude.{codes, decimal, IfSome}
 use Rattle.std.specs.List.{AllByRecursion, AllZip}
-use Rattle.std.proofs.lemmas.List.Elements.{recursion_from_All, All-from_recursion}
-use Rattle.std.proofs.lemmas.List.Sorted.{All-permutation}
 use Rattle.std.proofs.lemmas.Option.{same_Some, slice_get_within}
 use Rattle.edi_line.specs.Bytes.{IsBytes}
+use Rattle.edi_line.proofs.EachElement.{each_in_any_order, each_from_found}
 use Rattle.edi_record.specs.CanonicalZones.{value_text}
 use Rattle.edi_record.specs.LinkEnds.{EndData}
 use Rattle.edi_record.specs.RecordLayout.{zones_of_sheet}
@@ -91,25 +90,18 @@ record_stated s list r x h states = record {
   extras = subst (AllByRecursion HasBytesOfExtra) (sym states.extras) h.extras;
 }
 
-permuted : {X : Type 0} (P : X → Type 0) (xs ys : List X) → IsPermutation xs ys → AllByRecursion P xs → AllByRecursion P ys
-permuted P xs ys same all = recursion_from_All P ys (All-permutation P xs ys same (All-from_recursion P xs all))
-
 ends_carried : (to : ℕ → ℕ) (es : List PlanEnd) → AllByRecursion EndHasBytes es → AllByRecursion EndHasBytes (map (moved to) es)
 ends_carried to [] h = tt
 ends_carried to (e ∷ es) h = (h.0, ends_carried to es h.1)
 
 record_carried : (s : Classes) (to : ℕ → ℕ) (turned : ℕ → Bool) (i : ℕ) (x y : PlanRecord) → CarriesRecord s to turned i x y → HasPlanBytes x → HasPlanBytes y
 record_carried s to turned i x y c h = record {
-  attributes = permuted AttributeHasBytes x.attributes y.attributes c.attributes h.attributes;
-  ends = permuted EndHasBytes (map (moved to) x.ends) y.ends (ends_moved s to turned i x y c) (ends_carried to x.ends h.ends);
+  attributes = each_in_any_order AttributeHasBytes x.attributes y.attributes c.attributes h.attributes;
+  ends = each_in_any_order EndHasBytes (map (moved to) x.ends) y.ends (ends_moved s to turned i x y c) (ends_carried to x.ends h.ends);
   extras = subst (AllByRecursion HasBytesOfExtra) (sym c.extras) h.extras;
 }
 
 -- ---- what is written of them
-
-all_found : {X : Type 0} (P : X → Type 0) (xs : List X) → ((k : ℕ) (x : X) → slice_get xs k ≡ Some x → P x) → AllByRecursion P xs
-all_found P [] h = tt
-all_found P (x ∷ xs) h = (h 0 x refl, all_found P xs (λ k y e. h (suc k) y e))
 
 module _ (s : Classes) (names : HasByteNames s) (q : PlanData) (whole : IsWholePlan q) where
   attributes_written : (xs : List PlanAttribute) → AllByRecursion AttributeHasBytes xs → AllByRecursion IsByteAttribute (map (written_attribute s) xs)
@@ -132,7 +124,7 @@ module _ (s : Classes) (names : HasByteNames s) (q : PlanData) (whole : IsWholeP
   }
 
   all_written : ((k : ℕ) → IsPlace q k → HasPlanBytes (record_at q k)) → AllByRecursion IsByteRecord (written_records s q)
-  all_written h = all_found IsByteRecord (written_records s q) each
+  all_written h = each_from_found IsByteRecord (written_records s q) each
     where
       each : (k : ℕ) (r : Record) → slice_get (written_records s q) k ≡ Some r → IsByteRecord r
       each k r e =

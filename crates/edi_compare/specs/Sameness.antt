@@ -1,5 +1,5 @@
--- What the forms of sheets have to do with the sheets: the claim, for whoever doesn't ask which form a sheet has. It speaks of
--- acceptance and of the same plan alone.
+-- What the forms of sheets have to do with the sheets: the claim, for someone who doesn't ask which form a sheet has. It
+-- speaks of acceptance and of the same plan alone.
 use Rattle.std.specs.Prelude.{◌≡◌, ◌↔◌, ℕ, ◌<◌, ◌^◌, List, length}
 use Rattle.std.specs.List.{AllByRecursion}
 use Rattle.edi_line.specs.Bytes.{IsBytes}

@@ -1,37 +1,16 @@
 //! Runs over many sheets of one schema, which is loaded once.
-ghost use Rattle.std.specs.Prelude.{◌≡◌, IfErr, IfOk, IfSome, OnOk};
-ghost use Rattle.edi_schema.specs.SchemaRefusal.{IsGoodSchema};
+ghost use Rattle.std.specs.Prelude.{IfErr, IfOk, IfSome, OnOk};
 ghost use Rattle.edi_compare.specs.Headline.{IsFormOf};
-ghost use Rattle.edi_compare.specs.Runs.{AfterReading, IsRead, IfBothKnown, seen};
-ghost use Rattle.edi_compare.specs.Under.{SchemaFilesFault, UnderFault};
+ghost use Rattle.edi_compare.specs.Runs.{AfterReading, IsRead, seen};
+ghost use Rattle.edi_compare.specs.Under.{UnderFault};
 ghost use Rattle.edi_compare.specs.inner.Under.{UnderSchema};
 
 use crate::canonical::canon_from;
 use crate::fault::RunFault;
-use crate::runs::{load_or_fault, read_input};
+use crate::runs::read_input;
 use edi_line::{ByteIn, FileBytes, Pieces};
-use edi_schema::{Kinds, Schema};
+use edi_schema::Schema;
 use std::alloc::Global;
-
-/// Reads two files, and gives their schema.
-pub fn schema_of<S: ByteIn, D: ByteIn>(
-    alloc: Global,
-    kinds: &Kinds<'_>,
-    scd: &mut S,
-    dic: &mut D,
-) -> Result<Schema, RunFault>
-    ensures ok { IfOk result (λ schema.
-        IfBothKnown (S.contents scd.old) (D.contents dic.old) (λ s d. IsGoodSchema s d kinds.now schema)) }
-    ensures read { OnOk result (IsRead (seen S.ByteIn scd.old scd.new) × IsRead (seen D.ByteIn dic.old dic.new)) }
-    ensures err { IfErr result
-        (SchemaFilesFault kinds.now (seen S.ByteIn scd.old scd.new) (seen D.ByteIn dic.old dic.new)) }
-    ensures after { IfErr result (λ e.
-        AfterReading e (IsRead (seen S.ByteIn scd.old scd.new) × IsRead (seen D.ByteIn dic.old dic.new))) }
-{
-    let scd: Vec<u8> = read_input(alloc, scd, 1)?;
-    let dic: Vec<u8> = read_input(alloc, dic, 2)?;
-    load_or_fault(alloc, kinds, &scd, &dic)
-}
 
 /// Reads a sheet, which is the third input, and gives its canonical file under a schema.
 pub fn canon_under<V: ByteIn>(

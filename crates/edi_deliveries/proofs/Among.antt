@@ -5,6 +5,7 @@ use Rattle.std.specs.List.{list_any}
 use Rattle.std.proofs.lemmas.List.{map-append, take_more}
 use Rattle.std.proofs.lemmas.List.Folds.{list_any-append}
 use Rattle.std.proofs.lemmas.Slice.Eq.{bytes_eq-Decides}
+use Rattle.edi_line.proofs.Truths.{or_false}
 
 -- the names behind these
 abbrev pub texts : List (Bor (List ℕ)) → List (List ℕ)
@@ -14,10 +15,6 @@ texts names = map (λ (name : Bor (List ℕ)). name.now) names
 pub any_text : (name : List ℕ) (keys : List (Bor (List ℕ))) → list_any (λ (other : Bor (List ℕ)). bytes_eq name other.now) keys ≡ list_any (bytes_eq name) (texts keys)
 any_text name [] = refl
 any_text name (k ∷ ks) = ap (λ b. bytes_eq name k.now || b) (any_text name ks)
-
-or_false : (a : Bool) → (a || false) ≡ a
-or_false true = refl
-or_false false = refl
 
 any_last : (name : List ℕ) (xs : List (List ℕ)) (x : List ℕ) → list_any (bytes_eq name) (xs ++ x ∷ []) ≡ (list_any (bytes_eq name) xs || bytes_eq name x)
 any_last name xs x = list_any-append (bytes_eq name) xs (x ∷ []) ∙ ap (λ b. list_any (bytes_eq name) xs || b) (or_false (bytes_eq name x))

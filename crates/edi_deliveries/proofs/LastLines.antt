@@ -4,9 +4,9 @@ use Rattle.std.specs.Prelude.{IsPermutation}
 use Rattle.std.specs.List.{AllByRecursion, AllZip}
 use Rattle.std.specs.Str.{bytes_eq}
 use Rattle.std.proofs.lemmas.Bool.{false≢true}
-use Rattle.std.proofs.lemmas.List.Sorted.{All-permutation, IsPermutation-sym}
-use Rattle.std.proofs.lemmas.List.Elements.{All-from_recursion, recursion_from_All}
+use Rattle.std.proofs.lemmas.List.Sorted.{IsPermutation-sym}
 use Rattle.std.proofs.lemmas.Slice.Eq.{bytes_eq-Decides}
+use Rattle.edi_line.proofs.EachElement.{each_in_any_order}
 use Rattle.sha2.specs.Sha256.{sha256}
 use Rattle.edi_compare.specs.Headline.{IsFormOf}
 use Rattle.edi_manifest.specs.Laws.{LastLinesTellManifests, ManifestsTellLastLines}
@@ -23,10 +23,6 @@ use Rattle.edi_deliveries.proofs.Zips.{zip_moved}
 pub one_or_not : (c d : List ℕ) (b : Bool) → bytes_eq c d ≡ b → (c ≡ d) ⊎ (c ≢ d)
 one_or_not c d true is = inl ((bytes_eq-Decides c d).0 is)
 one_or_not c d false is = inr (λ e. absurd (false≢true (sym is ∙ (bytes_eq-Decides c d).1 e)))
-
--- what holds of each of a list holds of each in another order
-all_moved : {X : Type 0} (P : X → Type 0) (xs ys : List X) → IsPermutation xs ys → AllByRecursion P xs → AllByRecursion P ys
-all_moved P xs ys same h = recursion_from_All P ys (All-permutation P xs ys same (All-from_recursion P xs h))
 
 abbrev number : Digested → ℕ
 number Schema = 0
@@ -143,7 +139,7 @@ module _ (one_text : OneTextOneAnswer) (one_answer : OneAnswerOneText) where
   pub one_last_line : ManifestsTellLastLines → SameDeliveriesOneLastLine
   one_last_line tell lines others ps qs a b same =
       let moved = zip_moved (λ (q : NamedPart) (m : ManifestLine). IsLineOfPart m q) qs same.0 others same.1 (turned others qs b.lines_of) in
-      let files = all_moved (λ (p : NamedPart). IsOfFiles p.part) qs same.0 same.1 b.of_files in
+      let files = each_in_any_order (λ (p : NamedPart). IsOfFiles p.part) qs same.0 same.1 b.of_files in
       let one = one_list lines moved.0 ps same.0 a.lines_of moved.2 same.2 a.of_files files in
       tell lines others (IsPermutation-sym others lines (subst (IsPermutation others) (sym one) moved.1))
 
@@ -151,7 +147,7 @@ module _ (one_text : OneTextOneAnswer) (one_answer : OneAnswerOneText) where
   same_deliveries told lines others ps qs a b equal = elim (told lines others a.are b.are equal) [
     | inl same ↦
         let moved = zip_moved IsLineOfPart others lines qs (IsPermutation-sym lines others same) b.lines_of in
-        let files = all_moved (λ (p : NamedPart). IsOfFiles p.part) qs moved.0 moved.1 b.of_files in
+        let files = each_in_any_order (λ (p : NamedPart). IsOfFiles p.part) qs moved.0 moved.1 b.of_files in
         elim (all_partners lines ps moved.0 a.lines_of moved.2 a.of_files files) [
           | inl are ↦ inl (moved.0, moved.1, are)
           | inr two ↦ inr two

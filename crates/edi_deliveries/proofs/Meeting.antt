@@ -1,11 +1,9 @@
 -- Paths of which one meets FILE, or none.
 use Rattle.std.proofs.Common.{◌≡◌, ◌∙◌, ℕ, zero, suc, ◌+◌, ◌<◌, List, [], ◌∷◌, ◌++◌, ap, arith, get_or, length, map, refl, sym, take}
 use Rattle.std.specs.Prelude.{Any}
+use Rattle.edi_line.proofs.EachElement.{any_later}
 use Rattle.edi_deliveries.proofs.Lines.{map_push}
 use Rattle.edi_deliveries.proofs.Steps.{take_at}
-
-pub any_later : {X : Type 0} (P : X → Type 0) (x : X) (xs : List X) → Any P xs → Any P (x ∷ xs)
-any_later P x xs h = (suc h.0, h.1, omega (arith, h.2), h.3, h.4)
 
 -- one of those that are made of a list
 pub any_at : {X : Type 0} (f : X → List ℕ) (P : List ℕ → Type 0) (xs : List X) (i : ℕ) (d : X) → i < length xs → P (f (get_or xs i d)) → Any P (map f xs)

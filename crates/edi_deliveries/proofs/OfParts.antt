@@ -2,6 +2,7 @@
 use Rattle.std.proofs.Common.{◌≡◌, ◌⊎◌, ℕ, List, [], ◌∷◌, ◌++◌, Option, Some, None, Result, Ok, Err, inl, inr, refl, sym, subst, arith}
 use Rattle.std.specs.Prelude.{Any, MatchOption}
 use Rattle.std.specs.List.{AllByRecursion}
+use Rattle.edi_line.proofs.EachElement.{each_weaker, any_later}
 use Rattle.edi_schema.specs.Classes.{Classes}
 use Rattle.edi_schema.specs.Roles.{KindCodes}
 use Rattle.edi_manifest.specs.declared.line.Digested.{Digested}
@@ -14,7 +15,6 @@ use Rattle.edi_deliveries.specs.Deliveries.{Opened, found_path}
 use Rattle.edi_deliveries.specs.Found.{AreClassesFound, AreLotsFound, AreSheetsFound, EachFound, Finding, Finds, FindsNoMemory, IsBytesAnswer, IsFileFound, IsGeoFound, IsLotFound, IsPartFound, IsSchemaFound, IsSheetFound, OneFoundThenOther, PlacedLot, placed, schema_part}
 use Rattle.edi_deliveries.specs.Parts.{IsLineOfDelivery, IsLineOfLot, IsSchemaOfLot, coordinates, schema, sheet}
 use Rattle.edi_answers.proofs.Answering.{over}
-use Rattle.edi_deliveries.proofs.Meeting.{any_later}
 use Rattle.edi_deliveries.proofs.Well.{no_fault}
 
 -- where the status is 0, P holds of each line that is found
@@ -42,14 +42,9 @@ each_only : {X : Type 0} (F : X → Finding) (M : X → Type 0) (P : ManifestLin
 each_only F M P f [] m l e h = none_only P l h.0
 each_only F M P f (x ∷ xs) m l e h = both_only (F x) (EachFound F xs) P (f x m.0) (each_only F M P f xs m.1) l e h
 
--- each of a list is one of it
-all_map : {X : Type 0} (P Q : X → Type 0) → ((x : X) → P x → Q x) → (xs : List X) → AllByRecursion P xs → AllByRecursion Q xs
-all_map P Q f [] h = tt
-all_map P Q f (x ∷ xs) h = (f x h.0, all_map P Q f xs h.1)
-
 all_own : {X : Type 0} (xs : List X) → AllByRecursion (λ x. Any (λ y. y ≡ x) xs) xs
 all_own [] = tt
-all_own (x ∷ xs) = ((0, x, omega arith, refl, refl), all_map _ _ (λ y h. any_later (λ z. z ≡ y) x xs h) xs (all_own xs))
+all_own (x ∷ xs) = ((0, x, omega arith, refl, refl), each_weaker _ _ (λ y h. any_later (λ z. z ≡ y) x xs h) xs (all_own xs))
 
 -- one of a list for which it holds
 any_of : {X : Type 0} (P : X → Type 0) (x : X) (xs : List X) → Any (λ y. y ≡ x) xs → P x → Any P xs
@@ -108,5 +103,5 @@ pub lines_of_parts : (inputs : Inputs) (why : Why) (kinds : KindCodes) (d : Open
 lines_of_parts inputs why kinds d lines e h =
     both_only _ _ (IsLineOfDelivery inputs kinds d)
     (each_only (λ lot. IsLotFound inputs why kinds (placed d.before d.names lot)) (λ lot. Any (λ y. y ≡ lot) d.lots) (IsLineOfDelivery inputs kinds d)
-    (λ lot among l f k. all_map _ _ (λ line of_lot. any_of (λ y. IsLineOfLot inputs kinds (placed d.before d.names y) line) lot d.lots among of_lot) l (lot_only inputs why kinds (placed d.before d.names lot) l f k)) d.lots (all_own d.lots))
+    (λ lot among l f k. each_weaker _ _ (λ line of_lot. any_of (λ y. IsLineOfLot inputs kinds (placed d.before d.names y) line) lot d.lots among of_lot) l (lot_only inputs why kinds (placed d.before d.names lot) l f k)) d.lots (all_own d.lots))
     (λ l f k. none_only _ l k.0) lines e h

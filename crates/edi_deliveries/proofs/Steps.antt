@@ -1,5 +1,5 @@
 -- One reply after the other.
-use Rattle.std.proofs.Common.{◌≡◌, ℕ, zero, suc, ◌+◌, ◌<◌, ◌≤◌, Bool, List, [], ◌∷◌, ◌++◌, Option, IsTrue, Result, Ok, Err, OnOk, drop, take, get_or, length, refl, sym, ap, subst, arith, add-one, append_assoc, append-nil, ◌∙◌}
+use Rattle.std.proofs.Common.{◌≡◌, ℕ, zero, suc, ◌+◌, ◌<◌, ◌≤◌, Bool, List, [], ◌∷◌, ◌++◌, Option, IsTrue, drop, take, get_or, length, refl, sym, ap, subst, arith, add-one, append_assoc, append-nil, ◌∙◌}
 use Rattle.std.specs.Prelude.{flat_map, max}
 use Rattle.edi_answers.proofs.Answering.{over}
 pub use Rattle.edi_answers.proofs.Replies.{behind}
@@ -24,10 +24,6 @@ take_at xs i d h = ap (λ n. take n xs) (add-one i) ∙ take_suc xs i d h
 pub flat_push : {X Y : Type 0} (f : X → List Y) (xs : List X) (x : X) → flat_map f (xs ++ x ∷ []) ≡ flat_map f xs ++ f x
 flat_push f [] x = append-nil (f x)
 flat_push f (y ∷ ys) x = ap (λ l. f y ++ l) (flat_push f ys x) ∙ sym (append_assoc (f y) (flat_map f ys) (f x))
-
-pub on_ok_map : {T E : Type 0} (r : Result T E) (P Q : Type 0) → (P → Q) → OnOk r P → OnOk r Q
-on_ok_map (Ok v) P Q f h = f h
-on_ok_map (Err e) P Q f h = tt
 
 pub drop_all : {X : Type 0} (xs : List X) (i : ℕ) → length xs ≤ i → drop i xs ≡ []
 drop_all [] zero h = refl

@@ -1,17 +1,13 @@
 -- The rules of one record, as tests and as they are said.
-use Rattle.std.proofs.Common.{◌≡◌, ◌⊎◌, inl, inr, ℕ, zero, suc, Bool, true, false, not, ◌&&◌, ◌||◌, eqb, eq-eqb, ltb, ltb-true, lt-ltb, cond, List, [], ◌∷◌, length, filter, Option, Some, None, option_to_list, Any, codes, refl, sym, ap, ◌∙◌, subst, arith}
+use Rattle.std.proofs.Common.{◌≡◌, ◌⊎◌, inl, inr, ℕ, Bool, true, false, not, ◌||◌, cond, List, [], ◌∷◌, length, filter, Option, Some, None, option_to_list, Any, codes, refl, sym, ap, ◌∙◌, subst, arith}
 use Rattle.std.specs.List.{list_any, AllZip, IsDistinct}
-use Rattle.std.specs.Str.{all_ascii_digits}
-use Rattle.std.specs.Str.Parse.{digits_value}
-use Rattle.std.proofs.lemmas.Bool.{both_ways, leb-true, le-leb, eqb-true}
+use Rattle.std.proofs.lemmas.Bool.{both_ways, leb-true, le-leb, not-true, or_left, or_right}
 use Rattle.std.proofs.lemmas.List.Folds.{Any-from_list_any, list_any-from_Any}
 use Rattle.edi_line.specs.ZoneData.{ZoneData}
 use Rattle.edi_line.specs.Refusal.{BreaksTest}
-use Rattle.edi_line.proofs.NumberRead.{digits_test, test_digits}
+use Rattle.edi_line.proofs.EachElement.{any_cases, any_here, any_later}
 use Rattle.edi_record.specs.Records.{values}
 use Rattle.edi_record.specs.RecordRules.{Counts}
-use Rattle.edi_record.specs.Texts.{IsCount}
-use Rattle.edi_record.specs.inner.Texts.{count}
 use Rattle.edi_record.specs.inner.RecordRules.{counts_right}
 use Rattle.edi_record.proofs.Counted.{right_said, right_read}
 use Rattle.edi_delivery.specs.NameParts.{is_name_part, is_same_name}
@@ -23,20 +19,9 @@ use Rattle.edi_delivery.specs.inner.Noted.{repeats_name, repeats_file, take_test
 use Rattle.edi_delivery.specs.declared.lot.Lot.{Lot}
 use Rattle.edi_delivery.proofs.SameFiles.{shares, has_twins, file_repeats, no_twins, twins}
 
-or_left : (a b : Bool) → a ≡ true → (a || b) ≡ true
-or_left a b e = rw e refl
-
-or_right : (a b : Bool) → b ≡ true → (a || b) ≡ true
-or_right true b e = refl
-or_right false b e = e
-
 by_or : (a b : Bool) (P Q : Type 0) → (a ≡ true → P) → (b ≡ true → Q) → (a || b) ≡ true → P ⊎ Q
 by_or true b P Q f g e = inl (f refl)
 by_or false b P Q f g e = inr (g e)
-
-not_false : (b : Bool) → not b ≡ true → b ≡ false
-not_false true e = sym e
-not_false false e = refl
 
 -- ---- one zone, and several
 
@@ -53,7 +38,7 @@ lacks_test (x ∷ y ∷ xs) h = refl
 -- ---- names that aren't names
 
 unsafe_said : (texts : List (List ℕ)) → list_any is_unsafe texts ≡ true → Any (λ text. is_name_part text ≡ false) texts
-unsafe_said texts e = let a = Any-from_list_any is_unsafe texts e in (a.0, a.1, a.2, a.3, not_false _ a.4)
+unsafe_said texts e = let a = Any-from_list_any is_unsafe texts e in (a.0, a.1, a.2, a.3, not-true _ a.4)
 
 unsafe_test : (texts : List (List ℕ)) → Any (λ text. is_name_part text ≡ false) texts → list_any is_unsafe texts ≡ true
 unsafe_test texts a = list_any-from_Any is_unsafe texts (a.0, a.1, a.2, a.3, ap not a.4)
@@ -103,16 +88,6 @@ lot_one group l m h k = λ j. record {
     lists (Some x) None e = absurd cc
     lists (Some x) (Some y) e = ap (λ t. Some t) (heads x y e)
 
-any_here : {X : Type 0} (P : X → Type 0) (x : X) (xs : List X) → P x → Any P (x ∷ xs)
-any_here P x xs p = (0, x, omega arith, refl, p)
-
-any_later : {X : Type 0} (P : X → Type 0) (x : X) (xs : List X) → Any P xs → Any P (x ∷ xs)
-any_later P x xs a = (suc a.0, a.1, omega (arith, a.2), a.3, a.4)
-
-by_any : {X : Type 0} (P : X → Type 0) (x : X) (xs : List X) → Any P (x ∷ xs) → P x ⊎ Any P xs
-by_any P x xs (zero, y, below, is, p) = inl (subst P (sym is) p)
-by_any P x xs (suc k, y, below, is, p) = inr (k, y, omega (arith, below), is, p)
-
 no_any : {X : Type 0} (P : X → Type 0) → Any P [] → ⊥
 no_any P a = omega (arith, a.2)
 
@@ -122,7 +97,7 @@ Says P g = (lot : Lot) × (is_lot g ≡ true) × StatesLot g lot × P lot
 
 pub lots_from : (P : Lot → Type 0) (groups : List (List ZoneData)) (lots : List Lot) → StatesLots groups lots → Any (Says P) groups → Any P lots
 lots_from P [] lots h a = absurd (no_any (Says P) a)
-lots_from P (g ∷ gs) lots h a = go (is_lot g) refl lots h (by_any (Says P) g gs a) (lots_from P gs)
+lots_from P (g ∷ gs) lots h a = go (is_lot g) refl lots h (any_cases (Says P) g gs a) (lots_from P gs)
   where
     go : (b : Bool) → is_lot g ≡ b → (lots : List Lot) → AllZip StatesLot (cond b (g ∷ filter is_lot gs) (filter is_lot gs)) lots → Says P g ⊎ Any (Says P) gs
         → ((ls : List Lot) → StatesLots gs ls → Any (Says P) gs → Any P ls) → Any P lots
@@ -140,7 +115,7 @@ groups_from P (g ∷ gs) lots h a = go (is_lot g) refl lots h a (groups_from P g
     go : (b : Bool) → is_lot g ≡ b → (lots : List Lot) → AllZip StatesLot (cond b (g ∷ filter is_lot gs) (filter is_lot gs)) lots → Any P lots
         → ((ls : List Lot) → StatesLots gs ls → Any P ls → Any (Says P) gs) → Any (Says P) (g ∷ gs)
     go true e [] h a more = absurd (no_any P a)
-    go true e (l ∷ ls) h a more = here (by_any P l ls a)
+    go true e (l ∷ ls) h a more = here (any_cases P l ls a)
       where
         here : P l ⊎ Any P ls → Any (Says P) (g ∷ gs)
         here (inl p) = any_here (Says P) g gs (l, e, h.0, p)

@@ -3,9 +3,11 @@ use Rattle.std.proofs.Common.{Result, Ok, Err, IfErr, cond, ◌≡◌, ℕ, zero
 use Rattle.std.proofs.Common.{Bor}
 use Rattle.std.specs.List.{list_any}
 use Rattle.std.proofs.lemmas.List.Folds.{list_any-append}
+use Rattle.std.proofs.lemmas.Bool.{or_left}
 use Rattle.edi_line.specs.ZoneData.{ZoneData}
 use Rattle.edi_line.specs.Refusal.{Test, test}
 use Rattle.edi_line.specs.inner.Refusal.{first_broken}
+use Rattle.edi_line.proofs.Truths.{or_false}
 use Rattle.edi_record.specs.Records.{values}
 use Rattle.edi_delivery.specs.inner.LotTests.{is_unsafe, has_unsafe_file, draft_tests, lot_tests}
 use Rattle.edi_delivery.specs.inner.Steps.{IfRule}
@@ -23,13 +25,6 @@ err_of (Ok x) P Q h to = tt
 err_of (Err fault) P Q h to = if_rule P Q fault h to
 
 -- ---- some of a list
-
-or_left : (a b : Bool) → a ≡ true → (a || b) ≡ true
-or_left a b e = rw e refl
-
-or_right : (a b : Bool) → b ≡ true → (a || b) ≡ true
-or_right true b e = refl
-or_right false b e = e
 
 pub any_front : {X : Type 0} (test : X → Bool) (xs ys : List X) → list_any test xs ≡ true → list_any test (xs ++ ys) ≡ true
 any_front test [] ys e = let no : false ≡ true = e in absurd cc
@@ -60,10 +55,6 @@ unsafe_vecs d texts same h =
     (ap (λ (ts : List (Bor (List ℕ))). list_any is_unsafe (map (λ t. t.now) ts)) (sym same) ∙ h)))))
 
 -- ---- the tests of a lot
-
-or_false : (a : Bool) → (a || false) ≡ a
-or_false true = refl
-or_false false = refl
 
 -- the own names of a record's files are those of its draft
 pub same_unsafe : (group : List ZoneData) (d : LotDraft) → IsDraftOf group d → has_unsafe_file group ≡ list_any is_unsafe (own_names d)

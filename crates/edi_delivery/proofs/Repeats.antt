@@ -1,37 +1,16 @@
 -- Lists with repeats_earlier.
-use Rattle.std.proofs.Common.{Some, None, cond, ◌≡◌, ℕ, suc, ◌+◌, ◌<◌, Bool, true, false, not, ◌||◌, List, [], ◌∷◌, ◌++◌, length, map, get_or, take, drop, refl, sym, ap, ◌∙◌}
+use Rattle.std.proofs.Common.{Some, None, cond, ◌≡◌, ℕ, suc, ◌+◌, ◌<◌, Bool, true, false, ◌||◌, List, [], ◌∷◌, ◌++◌, length, map, get_or, take, drop, refl, sym, ap, ◌∙◌}
 use Rattle.std.specs.List.{list_any}
 use Rattle.std.specs.Str.{bytes_eq, str_to_ascii_lowercase}
 use Rattle.std.proofs.Math.Seq.{drop-cons}
 use Rattle.std.proofs.lemmas.List.{append_assoc, append-nil, take-append-drop, map-append, take_more}
+use Rattle.std.proofs.lemmas.Bool.{or_left, or_right}
 use Rattle.edi_line.specs.inner.Refusal.{first_broken}
+use Rattle.edi_line.proofs.Truths.{or_false, or_assoc}
 use Rattle.edi_delivery.specs.Lots.{files_of}
 use Rattle.edi_delivery.specs.inner.Steps.{repeats_earlier}
 use Rattle.edi_delivery.specs.inner.Noted.{lower_name, lower_files, repeats_name, repeats_file, take_tests}
 use Rattle.edi_delivery.specs.declared.lot.Lot.{Lot}
-
-or_assoc : (a b c : Bool) → ((a || b) || c) ≡ (a || (b || c))
-or_assoc true b c = refl
-or_assoc false b c = refl
-
-or_right : (a b : Bool) → b ≡ true → (a || b) ≡ true
-or_right true b e = refl
-or_right false b e = e
-
-or_left : (a b : Bool) → a ≡ true → (a || b) ≡ true
-or_left a b e = rw e refl
-
-or_false : (a : Bool) → (a || false) ≡ a
-or_false true = refl
-or_false false = refl
-
-pub not_false : (b : Bool) → not b ≡ false → b ≡ true
-not_false true e = refl
-not_false false e = sym e
-
-pub not_true : (b : Bool) → not b ≡ true → b ≡ false
-not_true true e = sym e
-not_true false e = refl
 
 pub any_map : {X Y : Type 0} (test : Y → Bool) (f : X → Y) (xs : List X) → list_any test (map f xs) ≡ list_any (λ x. test (f x)) xs
 any_map test f [] = refl

@@ -4,9 +4,12 @@ use Rattle.std.specs.List.{list_any, AllByRecursion, AllZip, IsDistinct}
 use Rattle.std.specs.Str.{str_to_ascii_lowercase}
 use Rattle.std.proofs.lemmas.List.{append_assoc, append-nil, map-append}
 use Rattle.std.proofs.lemmas.List.Elements.{filter-append}
+use Rattle.std.proofs.lemmas.Bool.{false_from_ne_true, or_parts}
 use Rattle.edi_line.specs.ZoneData.{ZoneData}
 use Rattle.edi_line.specs.Refusal.{BreaksTest}
 use Rattle.edi_line.specs.Zones.{groups_of}
+use Rattle.edi_line.proofs.EachElement.{each_of_both}
+use Rattle.edi_line.proofs.Truths.{or_false}
 use Rattle.edi_record.specs.Records.{values}
 use Rattle.edi_delivery.specs.NameParts.{is_name_part, is_file_name, is_same_name, file_name}
 use Rattle.edi_delivery.specs.Lots.{is_lot, StatesLot, StatesLots, files_of}
@@ -23,13 +26,9 @@ use Rattle.edi_delivery.proofs.LotRules.{lot_rule, take_rule}
 use Rattle.edi_delivery.proofs.Read.{push_states, no_lots}
 use Rattle.edi_delivery.proofs.Repeats.{any_map}
 use Rattle.edi_delivery.proofs.SafeNames.{made_of_parts}
-use Rattle.edi_delivery.proofs.SameFiles.{or_parts, any_flat, bytes_turned, file_repeats, no_twins}
+use Rattle.edi_delivery.proofs.SameFiles.{any_flat, bytes_turned, file_repeats, no_twins}
 
 -- ---- lists
-
-all_append : {X : Type 0} (P : X → Type 0) (xs ys : List X) → AllByRecursion P xs → AllByRecursion P ys → AllByRecursion P (xs ++ ys)
-all_append P [] ys h k = k
-all_append P (x ∷ xs) ys h k = (h.0, all_append P xs ys h.1 k)
 
 none_apart : (x : List ℕ) (ys : List (List ℕ)) → list_any (λ y. is_same_name y x) ys ≡ false → AllByRecursion (λ y. is_same_name x y ≡ false) ys
 none_apart x [] e = tt
@@ -40,7 +39,7 @@ unfolding IsDistinct
 distinct_append [] ys h k e = k
 distinct_append (x ∷ xs) ys h k e =
     let p = or_parts _ _ e in
-    (all_append (λ y. is_same_name x y ≡ false) xs ys h.0 (none_apart x ys p.0), distinct_append xs ys h.1 k p.1)
+    (each_of_both (λ y. is_same_name x y ≡ false) xs ys h.0 (none_apart x ys p.0), distinct_append xs ys h.1 k p.1)
 
 none_distinct : IsDistinct is_same_name []
 unfolding IsDistinct
@@ -50,17 +49,9 @@ one_distinct : (x : List ℕ) → IsDistinct is_same_name (x ∷ [])
 unfolding IsDistinct
 one_distinct x = (tt, tt)
 
-or_false : (a : Bool) → (a || false) ≡ a
-or_false true = refl
-or_false false = refl
-
 any_same : {X : Type 0} (p q : X → Bool) → ((x : X) → p x ≡ q x) → (xs : List X) → list_any p xs ≡ list_any q xs
 any_same p q same [] = refl
 any_same p q same (x ∷ xs) = ap (λ b. b || list_any p xs) (same x) ∙ ap (λ b. q x || b) (any_same p q same xs)
-
-is_false : (b : Bool) → (b ≡ true → ⊥) → b ≡ false
-is_false true h = absurd (h refl)
-is_false false h = refl
 
 -- ---- names of one lot
 
@@ -95,9 +86,9 @@ safe_lot group lot h named safe =
         (safe_files lot.name Scd (lot.scd ∷ []) name (ap (list_any is_unsafe) (sym h.scd) ∙ scd.0)).0,
         (
           (safe_files lot.name Dic (lot.dic ∷ []) name (ap (list_any is_unsafe) (sym h.dic) ∙ dic.0)).0,
-          all_append IsSafeFile (map (file_name lot.name Gen) (option_to_list lot.general)) _ (safe_files lot.name Gen (option_to_list lot.general) name (ap (list_any is_unsafe) (sym h.general) ∙ general.0))
-              (all_append IsSafeFile (map (file_name lot.name Geo) (option_to_list lot.geo)) _ (safe_files lot.name Geo (option_to_list lot.geo) name (ap (list_any is_unsafe) (sym h.geo) ∙ geo.0))
-              (all_append IsSafeFile (map (file_name lot.name Qal) (option_to_list lot.quality)) _ (safe_files lot.name Qal (option_to_list lot.quality) name (ap (list_any is_unsafe) (sym h.quality) ∙ quality.0))
+          each_of_both IsSafeFile (map (file_name lot.name Gen) (option_to_list lot.general)) _ (safe_files lot.name Gen (option_to_list lot.general) name (ap (list_any is_unsafe) (sym h.general) ∙ general.0))
+              (each_of_both IsSafeFile (map (file_name lot.name Geo) (option_to_list lot.geo)) _ (safe_files lot.name Geo (option_to_list lot.geo) name (ap (list_any is_unsafe) (sym h.geo) ∙ geo.0))
+              (each_of_both IsSafeFile (map (file_name lot.name Qal) (option_to_list lot.quality)) _ (safe_files lot.name Qal (option_to_list lot.quality) name (ap (list_any is_unsafe) (sym h.quality) ∙ quality.0))
               (safe_files lot.name Vec lot.vecs name (ap (list_any is_unsafe) (sym h.vecs) ∙ vecs.0)))),
         ),
       );
@@ -122,10 +113,10 @@ flat_push (l ∷ ls) lot = ap (λ t. files_of l ++ t) (flat_push ls lot) ∙ sym
 
 module _ (before : List (List ZoneData)) (lots : List Lot) (states : StatesLots before lots) (group : List ZoneData) (lot : Lot) (is : StatesLot group lot) (unbroken : (rule : ℕ) → ¬ (BreaksLotRule before group rule)) where
   no_test : (rule : ℕ) (b : Bool) → (b ≡ true → BreaksTest (lot_tests group) rule) → b ≡ false
-  no_test rule b to = is_false b (λ e. unbroken rule (lot_rule before lots states group rule (to e)))
+  no_test rule b to = false_from_ne_true b (λ e. unbroken rule (lot_rule before lots states group rule (to e)))
 
   no_repeat : (rule : ℕ) (b : Bool) → (b ≡ true → BreaksTest (take_tests lots lot) rule) → b ≡ false
-  no_repeat rule b to = is_false b (λ e. unbroken rule (take_rule before lots states group lot is rule (to e)))
+  no_repeat rule b to = false_from_ne_true b (λ e. unbroken rule (take_rule before lots states group lot is rule (to e)))
 
   named : repeats_name lots lot ≡ false
   named = no_repeat 709 (repeats_name lots lot) (λ e. inl (refl, e))
@@ -137,12 +128,12 @@ module _ (before : List (List ZoneData)) (lots : List Lot) (states : StatesLots 
   kept_more kept =
       let files = or_parts _ _ (sym (file_repeats lots lot) ∙ filed) in
       record {
-        vecs = all_append (λ (l : Lot). l.vecs ≢ []) lots (lot ∷ []) kept.vecs (
+        vecs = each_of_both (λ (l : Lot). l.vecs ≢ []) lots (lot ∷ []) kept.vecs (
           subst (λ vs. vs ≢ []) is.vecs (some_vecs (values (codes "GDC") group) (values (codes "GDN") group)
               (no_test 706 (miscounts (values (codes "GDC") group) (values (codes "GDN") group)) (λ e. inr (inr (inr (inr (inl (refl, e)))))))),
           tt,
         );
-        safe = all_append HasSafeNames lots (lot ∷ []) kept.safe (
+        safe = each_of_both HasSafeNames lots (lot ∷ []) kept.safe (
           safe_lot group lot is (no_test 703 (list_any is_unsafe (values (codes "LON") group)) (λ e. inr (inl (refl, e))))
               (no_test 708 (has_unsafe_file group) (λ e. inr (inr (inr (inr (inr (inr (inl (refl, e))))))))),
           tt,

@@ -1,5 +1,5 @@
 -- In an ordered list of records with their keys those that alone have a key stand side by side.
-use Rattle.std.proofs.Common.{◌≡◌, ◌≢◌, ◌∙◌, ◌↔◌, ℕ, zero, suc, ◌+◌, ◌-◌, ◌<◌, ◌≤◌, ◌⊎◌, inl, inr, Bool, true, false, true≢false, cond, List, [], ◌∷◌, ◌++◌, length, filter, Option, Some, None, SomeIff, IsTrue, ◌^◌, Result, Ok, Err, IfOk, take, Contains, IsPermutation, IsSorted, get_or, refl, sym, ap, subst, arith, Ordering, Less, Equal, Greater, is_lt, nat_cmp, add-one}
+use Rattle.std.proofs.Common.{◌≡◌, ◌≢◌, ◌∙◌, ◌↔◌, ℕ, zero, suc, ◌+◌, ◌-◌, ◌<◌, ◌≤◌, ◌⊎◌, inl, inr, Bool, true, false, true≢false, cond, List, [], ◌∷◌, ◌++◌, length, filter, Option, Some, None, SomeIff, IsTrue, ◌^◌, Result, IfOk, take, Contains, IsPermutation, IsSorted, get_or, refl, sym, ap, subst, arith, Ordering, Less, Equal, Greater, is_lt, nat_cmp, add-one}
 use Rattle.std.specs.Cmp.{IsTotalOrder}
 use Rattle.std.specs.List.Sorted.{IsSortedBy}
 use Rattle.std.specs.Ordering.{is_eq, ordering_reverse, ordering_then}
@@ -10,6 +10,7 @@ use Rattle.std.proofs.lemmas.List.Elements.{Contains-get_or, Contains-append_lef
 use Rattle.std.proofs.lemmas.List.Sorted.{Contains-permutation, IsPermutation-sym, ranks_by, sorted_far, sum_by-IsPermutation}
 use Rattle.std.proofs.lemmas.List.Sums.{length-filter}
 use Rattle.std.proofs.lemmas.Option.{none-some, same_Some}
+use Rattle.edi_line.proofs.Truths.{first_not_less, equal_is}
 use Rattle.edi_diff.specs.declared.changes.Proposal.{Proposal}
 use Rattle.edi_diff.specs.inner.Codes.{is_of_second, place_by, proposal_by, proposal_if}
 use Rattle.edi_diff.specs.inner.LonePairs.{AreLoneNeighbours, AreLonePairs, HasKeyAt, IsLoneAt, IsLoneIfAny, IsLonePair, with_keys, with_code, with_key}
@@ -77,15 +78,10 @@ apart_by Less n = refl
 apart_by Equal n = absurd (n refl)
 apart_by Greater n = refl
 
-pub not_less : (a b : Ordering) → is_lt (ordering_then a b) ≡ false → is_lt a ≡ false
-not_less Less b e = e
-not_less Equal b e = refl
-not_less Greater b e = refl
-
 -- sorted by pairs is sorted by keys
 pub keys_sorted : {K : Type 0} (cmp : K → K → Ordering) (pairs : List (K × ℕ)) → IsSorted (λ x y. ordering_then (cmp x.0 y.0) (nat_cmp x.1 y.1)) pairs
     → IsSortedBy (λ x y. is_lt (cmp x.0 y.0)) pairs
-keys_sorted cmp pairs sorted k d low high = not_less (cmp (get_or pairs (k + 1) d).0 (get_or pairs k d).0) (nat_cmp (get_or pairs (k + 1) d).1 (get_or pairs k d).1) (sorted k d low high)
+keys_sorted cmp pairs sorted k d low high = first_not_less (cmp (get_or pairs (k + 1) d).0 (get_or pairs k d).0) (nat_cmp (get_or pairs (k + 1) d).1 (get_or pairs k d).1) (sorted k d low high)
 
 -- of which sheet each is
 
@@ -306,11 +302,6 @@ module _ {K : Type 0} (cmp : K → K → Ordering) where
 
 -- the record at a place in the list, and whether it has a key
 
-equal_by : (o : Ordering) → is_eq o ≡ true → o ≡ Equal
-equal_by Less e = absurd (true≢false (sym e))
-equal_by Equal e = refl
-equal_by Greater e = absurd (true≢false (sym e))
-
 some_if : (o : Option ℕ) (P : Type 0) (v : ℕ) → SomeIff o P v → P → o ≡ Some v
 some_if None P v h p = absurd (h p)
 some_if (Some k) P v h p = ap Some h.1
@@ -331,7 +322,7 @@ module _ {K : Type 0} (cmp : K → K → Ordering) (pairs : List (K × ℕ)) (ke
 
   pub key_there : (o : Option ℕ) (k : ℕ) (x : K × ℕ) (r : Bool) → o ≡ Some k → k < length pairs → x ≡ get_or pairs k x → r ≡ is_eq (cmp x.0 key) → IsTrue r ↔ HasKeyAt cmp pairs o key
   key_there o k x r e h x_is is = (
-    λ yes. has_there k x o e h (ap (λ (z : K × ℕ). cmp z.0 key) (sym x_is) ∙ equal_by (cmp x.0 key) (sym is ∙ yes)),
+    λ yes. has_there k x o e h (ap (λ (z : K × ℕ). cmp z.0 key) (sym x_is) ∙ equal_is (cmp x.0 key) (sym is ∙ yes)),
     λ has. let same = same_Some k has.0 (sym e ∙ has.1) in
         is ∙ (ap (λ (z : K × ℕ). is_eq (cmp z.0 key)) x_is ∙ (ap (λ n. is_eq (cmp (get_or pairs n x).0 key)) same ∙ ap is_eq (has.3 x))),
   )
@@ -384,10 +375,6 @@ module _ {K : Type 0} (cmp : K → K → Ordering) (pairs : List (K × ℕ)) (at
     )
 
 -- under a result that may be an error
-
-pub all_ok : {V E : Type 0} (r : Result V E) (P Q : V → Type 0) → ((v : V) → P v → Q v) → IfOk r P → IfOk r Q
-all_ok (Ok v) P Q f h = f v h
-all_ok (Err e) P Q f h = tt
 
 pub proposed_by : {K V E : Type 0} (cmp : K → K → Ordering) (items : V → List Proposal) (key : ℕ → Option K) (codes all : List ℕ) (n : ℕ) (pairs lent : List (K × ℕ)) (r : Result V E) → lent ≡ pairs
     → pairs ≡ with_keys key (take n codes) → length codes ≤ n → codes ≡ all → IfOk r (λ v. AreLonePairs cmp lent (items v)) → IfOk r (λ v. AreLonePairs cmp (with_keys key all) (items v))

@@ -3,6 +3,7 @@ use Rattle.std.proofs.Common.{◌≡◌, ◌∙◌, ◌&&◌, ◌||◌, ℕ, Boo
 use Rattle.std.specs.List.{AllByRecursion, list_any}
 use Rattle.std.proofs.lemmas.Bool.{or_parts}
 use Rattle.std.proofs.lemmas.List.Sorted.{IsPermutation-refl}
+use Rattle.edi_line.proofs.EachElement.{each_weaker}
 use Rattle.edi_schema.specs.Classes.{Classes, partner_of}
 use Rattle.edi_schema.specs.Roles.{is_plain}
 use Rattle.edi_plan.specs.Plans.{PlanData, IsPlace, first_of, record_at, rest_of}
@@ -12,7 +13,6 @@ use Rattle.edi_plan.specs.declared.record.PlanRecord.{PlanRecord}
 use Rattle.edi_plan.proofs.Built.{plans_whole}
 use Rattle.edi_rank.specs.Labelling.{turned_at}
 use Rattle.edi_rank.specs.Same.{CarriesRecord, directed, moved}
-use Rattle.edi_rank.proofs.KeysPreserved.{all_weaker}
 use Rattle.edi_compare.proofs.Headline.{records_hold, references_hold}
 use Rattle.edi_compare.proofs.Phases.{sheet_whole}
 use Rattle.edi_compare.specs.PlanOfFile.{IsPlanOfFile}
@@ -111,7 +111,7 @@ module _ (s : Classes) (first second : LocatedSheet) (unchanged became : Matchin
     goes = are.keeps i j goes;
     carried = carried_later s unchanged.to became.to are.keeps (turned_at became.turned) i (record_at p i) (record_at q j) (holds.ends i j goes)
         (carried_turned s (slice_index (targets_of unchanged.to)) (turned_at unchanged.turned) (turned_at became.turned) i (record_at p i) (record_at q j) (sym (are.directions i (j, goes)))
-        (all_weaker (λ (e : PlanEnd). IsMatched unchanged.to e.target) (λ (e : PlanEnd). turned_at unchanged.turned e.target ≡ turned_at became.turned e.target)
+        (each_weaker (λ (e : PlanEnd). IsMatched unchanged.to e.target) (λ (e : PlanEnd). turned_at unchanged.turned e.target ≡ turned_at became.turned e.target)
         (λ e matched. sym (are.directions e.target matched)) (record_at p i).ends (holds.ends i j goes)) (holds.each i j goes));
   }
 

@@ -5,10 +5,11 @@ use Rattle.std.specs.Ordering.{ordering_then}
 use Rattle.std.proofs.lemmas.Bool.{eq-eqb, ltb-false, ltb-true, ne_eqb}
 use Rattle.std.proofs.lemmas.List.{append-nil, append_assoc, at_drop_all, at_drop_more, get_or-drop, get_or_default, length-drop}
 use Rattle.std.proofs.lemmas.List.Sorted.{IsNonDecreasingBy-drop, IsNonDecreasingBy-from_sort}
+use Rattle.edi_line.proofs.Truths.{first_not_less}
 use Rattle.edi_diff.specs.declared.proposing.LinkClass.{LinkClass}
 use Rattle.edi_diff.specs.contracts.proposing.LinkClassOrd.TheImpl.{ghosts as link_classes}
 use Rattle.edi_diff.specs.inner.Joints.{joined_with, joint_cmp}
-use Rattle.edi_diff.proofs.Alone.{none_pass, not_less}
+use Rattle.edi_diff.proofs.Alone.{none_pass}
 
 abbrev pub Joint : Type 0
 Joint = ℕ × (LinkClass × ℕ)
@@ -16,7 +17,7 @@ Joint = ℕ × (LinkClass × ℕ)
 -- in order they go by their codes
 pub codes_rise : (joints : List Joint) → IsSorted joint_cmp joints → IsNonDecreasingBy (λ (x : Joint). x.0) joints
 codes_rise joints sorted = IsNonDecreasingBy-from_sort (λ (x : Joint). x.0) joints (λ k d low high.
-    not_less (nat_cmp (get_or joints (k + 1) d).0 (get_or joints k d).0)
+    first_not_less (nat_cmp (get_or joints (k + 1) d).0 (get_or joints k d).0)
     (ordering_then (link_classes.cmp (get_or joints (k + 1) d).1.0 (get_or joints k d).1.0) (nat_cmp (get_or joints (k + 1) d).1.1 (get_or joints k d).1.1)) (sorted k d low high))
 
 module _ (code : ℕ) where

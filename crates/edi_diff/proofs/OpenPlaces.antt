@@ -1,5 +1,5 @@
 -- The places of records that are still open, one after the other.
-use Rattle.std.proofs.Common.{◌≡◌, ◌∙◌, ℕ, ◌+◌, ◌<◌, Bool, true, false, not, refl, cond, List, [], ◌∷◌, ◌++◌, map, length, drop, get_or, sym, ap, append_assoc}
+use Rattle.std.proofs.Common.{◌≡◌, ◌∙◌, ℕ, ◌+◌, ◌<◌, Bool, true, false, cond, List, [], ◌∷◌, ◌++◌, map, length, drop, get_or, sym, ap, append_assoc}
 use Rattle.std.proofs.lemmas.List.{at_drop_more}
 use Rattle.edi_diff.specs.inner.Progress.{places_where}
 
@@ -15,7 +15,3 @@ module _ {X : Type 0} (test : X → Bool) (code : ℕ → ℕ) (xs : List X) (n 
 
   pub place_same : test (get_or xs n d) ≡ false → new ≡ done → new ++ map code rest ≡ all
   place_same e is = ap (λ ys. ys ++ map code rest) is ∙ (ap (λ ys. done ++ map code ys) (sym (step false e)) ∙ so_far)
-
-pub not-not : (b : Bool) → not (not b) ≡ b
-not-not true = refl
-not-not false = refl

@@ -1,6 +1,6 @@
 -- Matchings as changes, and what leaves nothing out.
 use Rattle.std.proofs.Common.{◌≡◌, ℕ, zero, suc, ◌<◌, Bool, ◌||◌, true, false, IsTrue, List, [], ◌∷◌, length, get_or, Option, None, Some, refl, sym, ap, ◌∙◌, subst, eq-eqb}
-use Rattle.std.proofs.lemmas.Bool.{eqb-true}
+use Rattle.std.proofs.lemmas.Bool.{eqb-true, or_left, or_right}
 use Rattle.std.specs.Option.{is_some}
 use Rattle.edi_schema.specs.Classes.{Classes}
 use Rattle.edi_plan.specs.Plans.{PlanData}
@@ -42,19 +42,11 @@ fits first second unchanged became parts here there long are = record {
 
 -- ---- what leaves nothing out
 
-or_here : (a b : Bool) → a ≡ true → (a || b) ≡ true
-or_here true b e = refl
-or_here false b e = cc
-
-or_there : (a b : Bool) → b ≡ true → (a || b) ≡ true
-or_there true b e = refl
-or_there false b e = e
-
 pub goes_reached : (to : List (Option ℕ)) (i j : ℕ) → GoesTo to i j → is_reached to j ≡ true
 goes_reached [] i j e = cc
 goes_reached (None ∷ to) zero j e = cc
-goes_reached (Some k ∷ to) zero j e = let same : k ≡ j = cc in or_here (went_to j (Some k)) (is_reached to j) (eq-eqb k j same)
-goes_reached (x ∷ to) (suc i) j e = or_there (went_to j x) (is_reached to j) (goes_reached to i j e)
+goes_reached (Some k ∷ to) zero j e = let same : k ≡ j = cc in or_left (went_to j (Some k)) (is_reached to j) (eq-eqb k j same)
+goes_reached (x ∷ to) (suc i) j e = or_right (went_to j x) (is_reached to j) (goes_reached to i j e)
 
 here_or_there : (k : ℕ) (to : List (Option ℕ)) (j : ℕ) → (is_reached to j ≡ true → (i : ℕ) × GoesTo to i j) → is_reached (Some k ∷ to) j ≡ true → (i : ℕ) × GoesTo (Some k ∷ to) i j
 here_or_there k to j more e = go (went_to j (Some k)) refl e
@@ -106,10 +98,6 @@ text_by s first second m became parts form text unchanged went reported_parts ar
       },
       refl,
     )
-
-pub some_there : (o : Option ℕ) → is_some o ≡ true → (j : ℕ) × (o ≡ Some j)
-some_there None none = cc
-some_there (Some j) none = (j, refl)
 
 pub none_gone : (o : Option ℕ) (j : ℕ) → o ≡ Some j → is_some o ≡ false → ⊥
 none_gone None j is none = cc

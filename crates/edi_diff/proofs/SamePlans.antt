@@ -5,6 +5,7 @@ use Rattle.std.proofs.lemmas.Bool.{and_right, or_from}
 use Rattle.std.proofs.lemmas.List.FromFn.{get_or-range_with_len, length-range_with_len}
 use Rattle.std.proofs.lemmas.Slice.Eq.{bytes_eq-Decides}
 use Rattle.edi_line.specs.Bytes.{line_feed}
+use Rattle.edi_line.proofs.EachElement.{each_from_places}
 use Rattle.edi_record.specs.declared.record.Kind.{Kind}
 use Rattle.edi_record.specs.declared.record.Kind.TheVariants.{Pno, Par, Pfe, Fea, Lnk}
 use Rattle.edi_schema.specs.Classes.{Classes}
@@ -26,7 +27,6 @@ use Rattle.edi_objects.specs.LinksOf.{links_of}
 use Rattle.edi_objects.specs.Names.{Naming}
 use Rattle.edi_objects.specs.Objects.{first_object, has_other_outline, outline_there, second_object}
 use Rattle.edi_objects.specs.Telling.{IsSoundReport}
-use Rattle.edi_objects.proofs.LinkEntries.{all_by_places}
 use Rattle.edi_objects.proofs.NothingHidden.{any_none, untouched_silent}
 use Rattle.edi_objects.proofs.TextLines.{none_from}
 use Rattle.edi_diff.specs.Differences.{IsDifference}
@@ -48,10 +48,10 @@ no_outline test none p k = or_from (test k) (list_any (bounds_anew test p k) (li
         (or_from (test link) (list_any test (targets (record_at p link))) (none link) (none_of_any test none (targets (record_at p link))))
 
 text_none : (f : ℕ → List ℕ) (kind : Kind) (p : PlanData) → ((k : ℕ) → IsPlace p k → (record_at p k).kind ≡ kind → f k ≡ []) → flat_map f (places_of kind p) ≡ []
-text_none f kind p each = none_from f (places_of kind p) (all_by_places (λ (k : ℕ). f k ≡ []) (places_of kind p) 0 (λ m h. each (get_or (places_of kind p) m 0) (place_there kind p m h) (place_of_kind kind p m h)))
+text_none f kind p each = none_from f (places_of kind p) (each_from_places (λ (k : ℕ). f k ≡ []) (places_of kind p) 0 (λ m h. each (get_or (places_of kind p) m 0) (place_there kind p m h) (place_of_kind kind p m h)))
 
 none_any_within : (test : ℕ → Bool) (n : ℕ) → ((i : ℕ) → i < n → test i ≡ false) → list_any test (range_with_len 0 n) ≡ false
-none_any_within test n none = any_none test (range_with_len 0 n) (all_by_places (λ (i : ℕ). test i ≡ false) (range_with_len 0 n) 0 (λ k h.
+none_any_within test n none = any_none test (range_with_len 0 n) (each_from_places (λ (i : ℕ). test i ≡ false) (range_with_len 0 n) 0 (λ k h.
     let less : k < n = omega (arith, h, length-range_with_len 0 n) in
     let at : get_or (range_with_len 0 n) k 0 ≡ k = omega (arith, get_or-range_with_len 0 n k 0 less) in
     subst (λ (i : ℕ). test i ≡ false) (sym at) (none k less)))

@@ -4,6 +4,7 @@ use Rattle.std.specs.List.{flat_map}
 use Rattle.std.proofs.lemmas.Bool.{false_from_ne_true}
 use Rattle.std.proofs.lemmas.List.{append_cancel_right}
 use Rattle.std.proofs.lemmas.Slice.Eq.{bytes_eq-Decides}
+use Rattle.edi_line.proofs.EachElement.{each_weaker}
 use Rattle.edi_record.specs.declared.record.Kind.{Kind}
 use Rattle.edi_record.specs.declared.record.Kind.TheVariants.{Pno, Par, Pfe, Fea, Lnk}
 use Rattle.edi_schema.specs.Classes.{Classes}
@@ -13,7 +14,6 @@ use Rattle.edi_plan.specs.declared.record.PlanEnd.{PlanEnd}
 use Rattle.edi_plan.proofs.PlaceLemmas.{has_place}
 use Rattle.edi_rank.specs.Labelling.{turned_at}
 use Rattle.edi_rank.specs.Same.{CarriesRecord, Same}
-use Rattle.edi_rank.proofs.KeysPreserved.{all_weaker}
 use Rattle.edi_compare.specs.Rules.{IsAccepted}
 use Rattle.edi_matching.specs.Matchings.{GoesTo, IsMatched, IsTotal, MatchingHolds, targets_of}
 use Rattle.edi_matching.specs.declared.matching.Matching.{Matching}
@@ -166,7 +166,7 @@ same_if_silent n s a b form found accepted accepted' d silent =
       within = d.is_text.changes.within;
       apart = d.is_text.changes.apart;
       arcs = λ i there turned. (matched i there, d.is_text.changes.arcs i there turned);
-      ends = λ i j goes. all_weaker (λ (e : PlanEnd). IsPlace p e.target) (λ (e : PlanEnd). IsMatched became.to e.target) (λ e there. matched e.target there) (record_at p i).ends (sound.first_whole.there i (place i j goes));
+      ends = λ i j goes. each_weaker (λ (e : PlanEnd). IsPlace p e.target) (λ (e : PlanEnd). IsMatched became.to e.target) (λ e there. matched e.target there) (record_at p i).ends (sound.first_whole.there i (place i j goes));
       each = each;
     }
 

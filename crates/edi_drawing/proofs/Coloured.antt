@@ -1,5 +1,6 @@
 -- Which records are coloured.
 use Rattle.std.proofs.Common.{◌≡◌, ◌↔◌, ℕ, Bool, true, false, List, [], Option, Some, None, get_or, refl, sym, ap, ◌∙◌, if◌then◌else◌, codes}
+use Rattle.std.proofs.lemmas.Bool.{false_from_ne_true}
 use Rattle.edi_matching.specs.Matchings.{GoesTo, IsMatched}
 use Rattle.edi_matching.specs.declared.matching.Matching.{Matching}
 use Rattle.edi_report.specs.Lines.{is_reached, line_by, lone_line}
@@ -46,10 +47,6 @@ changed_said false false e = absurd cc
 changed_from : (a b : Bool) → a ≡ false → b ≡ true → (if a then Hidden else if b then After else OnlySecond) ≡ After
 changed_from a b e f = rw (e, f) refl
 
-no_case : (b : Bool) → (b ≡ true → ⊥) → b ≡ false
-no_case true h = absurd (h refl)
-no_case false h = refl
-
 pub changed : SecondChangedIfBecame
 changed first second unchanged became j are = (onto, back)
   where
@@ -70,7 +67,7 @@ changed first second unchanged became j are = (onto, back)
             one_place x y e = cc
 
     back : (i : ℕ) × (¬ (IsMatched unchanged.to i)) × GoesTo became.to i j → (if is_reached unchanged.to j then Hidden else if is_reached became.to j then After else OnlySecond) ≡ After
-    back w = changed_from (is_reached unchanged.to j) (is_reached became.to j) (no_case (is_reached unchanged.to j) (λ h. taken (reached_goes unchanged.to j h))) (goes_reached became.to w.0 j w.2)
+    back w = changed_from (is_reached unchanged.to j) (is_reached became.to j) (false_from_ne_true (is_reached unchanged.to j) (λ h. taken (reached_goes unchanged.to j h))) (goes_reached became.to w.0 j w.2)
       where
         taken : (k : ℕ) × GoesTo unchanged.to k j → ⊥
         taken t =

@@ -1,6 +1,6 @@
 -- Lines that bar others: by what they say, and by their first bytes.
 use Rattle.std.proofs.Common.{◌≡◌, ◌∙◌, ◌+◌, ◌-◌, ◌<◌, ◌≤◌, ◌⊎◌, ◌++◌, ◌∷◌, ◌&&◌, ◌||◌, inl, inr, ℕ, zero, suc, Bool, true, false, cond, List, [], Some, None, Ok, Err, option_map, length, take, replicate, map, get_or, slice_get, refl, sym, ap, arith, codes, bytes_eq, nat_eq, eqb-true, append_assoc}
-use Rattle.std.proofs.lemmas.Option.{slice_get-map, slice_get_within}
+use Rattle.std.proofs.lemmas.Option.{slice_get-map, slice_get_within, same_Some}
 use Rattle.std.proofs.lemmas.Slice.Eq.{bytes_eq-Decides}
 use Rattle.std.proofs.Math.Seq.{take-append_seam}
 use Rattle.edi_line.proofs.Heads.{blank_read, reading_rule, zone_read}
@@ -12,7 +12,6 @@ use Rattle.edi_line.specs.Spelling.{Reading, Spelling}
 use Rattle.edi_line.specs.inner.Lines.{line_contents, lines_in}
 use Rattle.edi_line.specs.inner.Spelling.{reading_of}
 use Rattle.edi_line.specs.inner.Zones.{readings_of}
-use Rattle.edi_explain.proofs.Names.{same_some}
 use Rattle.edi_explain.specs.Barring.{IsBarredBy, bars, has_zone}
 use Rattle.edi_explain.specs.inner.Barring.{bars_text}
 
@@ -73,7 +72,7 @@ bars_same rule c d fine fine' = rw (eom_tested c fine, bom_tested d fine', bom_t
 
 cut_there : (xs : List Reading) (i : ℕ) (x : Reading) → slice_get xs i ≡ Some x → (before after : List Reading) × (xs ≡ before ++ x ∷ after) × (length before ≡ i)
 cut_there [] i x h = absurd (omega (arith, slice_get_within [] i x h))
-cut_there (y ∷ ys) zero x h = ([], ys, ap (λ z. z ∷ ys) (same_some h), refl)
+cut_there (y ∷ ys) zero x h = ([], ys, ap (λ z. z ∷ ys) (same_Some _ _ h), refl)
 cut_there (y ∷ ys) (suc i) x h = let more = cut_there ys i x h in (y ∷ more.0, more.1, ap (λ zs. y ∷ zs) more.2, ap suc more.3)
 
 module _ (bytes : List ℕ) (rule at : ℕ) (least : IsLeastBroken (BreaksLineRule bytes) rule at) (big : 104 ≤ rule) where
@@ -110,8 +109,8 @@ module _ (bytes : List ℕ) (rule at : ℕ) (least : IsLeastBroken (BreaksLineRu
     pub text_bars : (m : ℕ) (c : List ℕ) → slice_get (line_contents bytes) (m - 1) ≡ Some c → IsBarredBy bytes rule at m → bars_text rule c d ≡ true
     text_bars m c there h =
         let all = readings_are bytes h.readings h.say in
-        let first : h.earlier ≡ reading_of c = same_some (sym h.there ∙ (ap (λ rs. slice_get rs (m - 1)) all ∙ reading_there (m - 1) c there)) in
-        let second : h.line ≡ reading_of d = same_some (sym h.here ∙ (ap (λ rs. slice_get rs (at - 1)) all ∙ reading_there (at - 1) d here)) in
+        let first : h.earlier ≡ reading_of c = same_Some _ _ (sym h.there ∙ (ap (λ rs. slice_get rs (m - 1)) all ∙ reading_there (m - 1) c there)) in
+        let second : h.line ≡ reading_of d = same_Some _ _ (sym h.here ∙ (ap (λ rs. slice_get rs (at - 1)) all ∙ reading_there (at - 1) d here)) in
         sym (bars_same rule c d (fine_there (m - 1) c (omega (arith, h.before, h.from_one)) there) (fine_there (at - 1) d (omega (arith, some)) here))
         ∙ (sym (ap (λ r. bars rule r (reading_of d)) first) ∙ (sym (ap (λ r. bars rule h.earlier r) second) ∙ h.barred))
 

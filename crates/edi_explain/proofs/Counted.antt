@@ -1,6 +1,6 @@
 -- The line of a refusal by 103, and whether its length counts characters.
 use Rattle.std.proofs.Common.{◌≡◌, ◌∙◌, ◌-◌, ◌≤◌, ◌++◌, ◌∷◌, inl, inr, ℕ, suc, List, [], Some, None, Err, Option, option_map, length, slice_get, refl, sym, ap, subst, arith}
-use Rattle.std.proofs.lemmas.Option.{slice_get-map}
+use Rattle.std.proofs.lemmas.Option.{slice_get-map, same_Some}
 use Rattle.edi_line.proofs.Cut.{lines_exist, lines_unique}
 use Rattle.edi_line.proofs.Heads.{read_103}
 use Rattle.edi_line.proofs.Readings.{rule_read}
@@ -11,7 +11,6 @@ use Rattle.edi_line.specs.Spelling.{HasMore, Reading}
 use Rattle.edi_line.specs.inner.Lines.{line_contents, lines_in}
 use Rattle.edi_line.specs.inner.Spelling.{reading_of}
 use Rattle.edi_line.specs.inner.Zones.{readings_of}
-use Rattle.edi_explain.proofs.Names.{same_some}
 use Rattle.edi_explain.specs.Lengths.{CountsCharacters, IsMiscounted}
 
 -- a line breaks 103 by itself alone
@@ -39,7 +38,7 @@ module _ (bytes : List ℕ) (rule at : ℕ) (least : IsLeastBroken (BreaksLineRu
 
   pub refused_more : (content : List ℕ) → slice_get (line_contents bytes) (at - 1) ≡ Some content → HasMore content
   refused_more content there =
-      (read_103 content).0 (same_some (sym (slice_get-map reading_of (line_contents bytes) (at - 1) ∙ ap (option_map reading_of) there) ∙ refused_line.1))
+      (read_103 content).0 (same_Some _ _ (sym (slice_get-map reading_of (line_contents bytes) (at - 1) ∙ ap (option_map reading_of) there) ∙ refused_line.1))
 
   pub counts_here : (content : List ℕ) → slice_get (line_contents bytes) (at - 1) ≡ Some content → IsMiscounted content → CountsCharacters bytes at
   counts_here content there h = go (slice_get (lines_in bytes) (at - 1)) refl
@@ -51,7 +50,7 @@ module _ (bytes : List ℕ) (rule at : ℕ) (least : IsLeastBroken (BreaksLineRu
         line = line;
         from_one = refused_line.0;
         there = e;
-        miscounted = subst IsMiscounted (same_some (sym there ∙ (slice_get-map content_of (lines_in bytes) (at - 1) ∙ ap (option_map content_of) e))) h;
+        miscounted = subst IsMiscounted (same_Some _ _ (sym there ∙ (slice_get-map content_of (lines_in bytes) (at - 1) ∙ ap (option_map content_of) e))) h;
       }
       go None e = let none : None ≡ Some content = sym (slice_get-map content_of (lines_in bytes) (at - 1) ∙ ap (option_map content_of) e) ∙ there in absurd cc
 
@@ -60,7 +59,7 @@ module _ (bytes : List ℕ) (at : ℕ) where
   content_there h = slice_get-map content_of (lines_in bytes) (at - 1) ∙ ap (option_map content_of) (ap (λ ls. slice_get ls (at - 1)) (sym (lines_unique bytes h.lines h.are_lines)) ∙ h.there)
 
   pub counted_here : (content : List ℕ) → slice_get (line_contents bytes) (at - 1) ≡ Some content → CountsCharacters bytes at → IsMiscounted content
-  counted_here content there h = subst IsMiscounted (same_some (sym (content_there h) ∙ there)) h.miscounted
+  counted_here content there h = subst IsMiscounted (same_Some _ _ (sym (content_there h) ∙ there)) h.miscounted
 
   pub no_line : slice_get (line_contents bytes) (at - 1) ≡ None → ¬ (CountsCharacters bytes at)
   no_line none h = let some : None ≡ Some (content_of h.line) = sym none ∙ content_there h in cc

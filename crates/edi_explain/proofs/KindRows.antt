@@ -2,7 +2,8 @@
 use Rattle.std.proofs.Common.{◌≡◌, ◌∙◌, ◌⊎◌, inl, inr, ℕ, ◌+◌, ◌-◌, ◌<◌, Bool, true, false, List, [], length, Option, Some, None, MatchOption, slice_get, sym, ap, subst, refl, arith}
 use Rattle.std.specs.List.{list_any}
 use Rattle.std.proofs.lemmas.Bool.{cases_order}
-use Rattle.edi_line.specs.ZoneData.{ZoneData, entries}
+use Rattle.std.proofs.lemmas.Option.{same_Some}
+use Rattle.edi_line.specs.ZoneData.{ZoneData}
 use Rattle.edi_line.specs.declared.zone.Zone.{Zone}
 use Rattle.edi_record.specs.Texts.{is_semicolon}
 use Rattle.edi_schema.specs.Roles.{KindCodes, exchanged, role_rank}
@@ -14,7 +15,6 @@ use Rattle.edi_explain.specs.declared.kind_causes.KindsCase.{KindsCase}
 use Rattle.edi_explain.specs.declared.kind_causes.KindsCase.TheVariants.{Two, Alone, Barred}
 use Rattle.edi_explain.specs.declared.kind_causes.KindsCause.{KindsCause}
 use Rattle.edi_explain.specs.inner.KindClasses.{HoldsSemicolon, IsFirstOfCase, StatesClassOf}
-use Rattle.edi_explain.proofs.Names.{same_some}
 use Rattle.edi_explain.proofs.RowGroups.{IsLeftAt, ended}
 
 pub with_match : {X : Type 0} (o : Option X) (P P' : Type 0) (Q Q' : X → Type 0) → (P → P') → ((x : X) → Q x → Q' x) → MatchOption o P Q → MatchOption o P' Q'
@@ -31,7 +31,7 @@ module _ (groups : List (List ZoneData)) (kinds : KindCodes) where
   pub states_here : (role : Role) (behind n : ℕ) (g : List ZoneData) → slice_get groups n ≡ Some g → IsClassBehind groups kinds role behind (n + 1) → StatesClassOf kinds g role
   states_here role behind n g there h =
       let same : slice_get groups n ≡ Some h.1.0 = ap (slice_get groups) (omega arith) ∙ h.1.2.1 in
-      subst (λ (x : List ZoneData). StatesClassOf kinds x role) (same_some (sym same ∙ there)) (h.1.1, h.1.3, h.1.4, h.1.5)
+      subst (λ (x : List ZoneData). StatesClassOf kinds x role) (same_Some _ _ (sym same ∙ there)) (h.1.1, h.1.3, h.1.4, h.1.5)
 
   -- where no group is left, none is behind those that have come
   pub none_left : (role : Role) (behind number : ℕ) (rest : List Zone) → length rest < 1 → IsLeftAt groups number rest
@@ -69,8 +69,8 @@ module _ (groups : List (List ZoneData)) (kinds : KindCodes) where
 
   pub type_holds : (role : Role) (n : ℕ) (h : IsClassOf groups kinds role n) → HoldsSemicolon groups n → list_any is_semicolon h.1.rty ≡ true
   type_holds role n h d =
-      let group : d.0 ≡ h.0 = same_some (sym d.2 ∙ h.2.1) in
-      let rty : d.1 ≡ h.1.rty = same_some (sym d.3 ∙ (ap (λ (g : List ZoneData). Rattle.edi_line.specs.ZoneData.first (Rattle.edi_record.specs.Records.values (Rattle.std.specs.Prelude.codes "RTY") g)) group ∙ h.3.rty)) in
+      let group : d.0 ≡ h.0 = same_Some _ _ (sym d.2 ∙ h.2.1) in
+      let rty : d.1 ≡ h.1.rty = same_Some _ _ (sym d.3 ∙ (ap (λ (g : List ZoneData). Rattle.edi_line.specs.ZoneData.first (Rattle.edi_record.specs.Records.values (Rattle.std.specs.Prelude.codes "RTY") g)) group ∙ h.3.rty)) in
       sym (ap (list_any is_semicolon) rty) ∙ d.4
 
   pub type_lacks : (role : Role) (n : ℕ) (h : IsClassOf groups kinds role n) → ¬ (HoldsSemicolon groups n) → list_any is_semicolon h.1.rty ≡ false

@@ -15,6 +15,8 @@ use Rattle.edi_line.specs.Zones.{begins_group, groups_of}
 use Rattle.edi_line.proofs.ZonesSaid.{zones_of_one}
 use Rattle.std.proofs.lemmas.Grind.{flat_map-append}
 use Rattle.std.proofs.lemmas.List.Quantifiers.{Any-push}
+use Rattle.std.proofs.lemmas.Option.{same_Some}
+use Rattle.edi_line.proofs.EachElement.{any_more}
 use Rattle.edi_record.specs.Records.{values}
 use Rattle.edi_record.specs.Texts.{IsPointer, PointerText, shown}
 use Rattle.edi_record.specs.Titles.{IsTitleOf, TitleData}
@@ -84,9 +86,6 @@ stayed_by text ends home (Some x) None e f not k =
     let same : x ≡ home = cc in
     stayed text ends x (λ a. not (subst (λ (v : Vec ℕ). AreApart text v.items) same a)) k
 
-same_text : (a b : List ℕ) → Some a ≡ Some b → a ≡ b
-same_text a b e = cc
-
 -- where no end strayed, there are no two
 module _ (ends : List (List ℕ)) (h s : List ℕ) (two : AreStrayEnds ends h s) where
   pub none_of_none : (stray : Option (Vec ℕ)) → EndsAre ends None stray → ⊥
@@ -94,7 +93,7 @@ module _ (ends : List (List ℕ)) (h s : List ℕ) (two : AreStrayEnds ends h s)
 
   pub none_of_one : (home : Vec ℕ) → EndsAre ends (Some home) None → ⊥
   none_of_one home k =
-      let same = same_text h home.items (sym two.leads ∙ k.0) in
+      let same = same_Some h home.items (sym two.leads ∙ k.0) in
       All-contains (λ x. ¬ (AreApart x home.items)) ends s k.1 there (subst (AreApart s) same two.apart)
     where
       there : Contains ends s
@@ -121,9 +120,6 @@ module _ (b : List ℕ) (unbroken : IsUnbroken (BreaksLineRule b)) (zones : List
   stray_ends_are (Some both) h = record { unbroken = unbroken; zones = zones; read = read; ends = h }
 
 -- ---- a record that is sought
-
-pub any_more : {X : Type 0} (P : X → Type 0) (xs : List X) (y : X) → Any P xs → Any P (xs ++ y ∷ [])
-any_more P xs y h = let c = Contains-append_left xs (y ∷ []) h.1 (h.0, h.2, h.3) in (c.0, h.1, c.1, c.2, h.4)
 
 pub any_cases : {X : Type 0} (P : X → Type 0) (xs : List X) (y : X) → Any P (xs ++ y ∷ []) → Any P xs ⊎ P y
 any_cases P xs y h = go (Contains-push_cases xs y h.1 (h.0, h.2, h.3))
@@ -300,7 +296,7 @@ module _ (p : PointerText) (come : List (List ZoneData)) where
     pub found_named : (t u : Bool) → IsTrue t ↔ Any (IsNamedBy p) come → t ≡ true → IsTrue u ↔ AreTogether p home.items → IsTrue u ↔ HasNamedAmong come p
     found_named t u there e k = (
       λ i. record { home = home.items; leads = leads; together = k.0 i; there = there.0 e },
-      λ h. k.1 (subst (AreTogether p) (same_text h.home home.items (sym h.leads ∙ leads)) h.together),
+      λ h. k.1 (subst (AreTogether p) (same_Some h.home home.items (sym h.leads ∙ leads)) h.together),
     )
 
   pub not_there : (t : Bool) → IsTrue t ↔ Any (IsNamedBy p) come → t ≡ false → IsTrue t ↔ HasNamedAmong come p

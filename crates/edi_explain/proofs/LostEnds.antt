@@ -8,9 +8,11 @@ use Rattle.std.proofs.lemmas.List.Elements.{Contains-append_left, Contains-push,
 use Rattle.std.proofs.lemmas.List.Quantifiers.{Any-push}
 use Rattle.std.proofs.lemmas.Map.Views.{Contains-from_any, list_any-from_Contains}
 use Rattle.std.proofs.lemmas.Slice.Eq.{bytes_eq-Decides}
+use Rattle.std.proofs.lemmas.Option.{same_Some}
 use Rattle.indexmap.specs.IndexSet.{insert_key}
 use Rattle.edi_line.specs.ZoneData.{ZoneData, entries, entry, first}
 use Rattle.edi_line.specs.declared.zone.Zone.{Zone}
+use Rattle.edi_line.proofs.EachElement.{any_more}
 use Rattle.edi_record.specs.Records.{values}
 use Rattle.edi_record.specs.Texts.{IsPointer, PointerText}
 use Rattle.edi_record.specs.declared.name.Name.{Name}
@@ -19,7 +21,7 @@ use Rattle.edi_schema.specs.Classes.{is_name}
 use Rattle.edi_schema.proofs.Names.{name_itself, same_name}
 use Rattle.edi_explain.specs.AstrayZones.{IsNamedBy, NamesNoElement}
 use Rattle.edi_explain.specs.inner.LostEnds.{AreNamesOfGroups, identifiers, pointed_name}
-use Rattle.edi_explain.proofs.LinkEnds.{any_cases, any_more, nothing_there}
+use Rattle.edi_explain.proofs.LinkEnds.{any_cases, nothing_there}
 
 -- ---- sets of names
 
@@ -60,9 +62,6 @@ module _ (names : List Name) (name other : Name) where
 
 -- ---- the names of records
 
-same_texts : (a b : List ℕ) → Some a ≡ Some b → a ≡ b
-same_texts a b e = cc
-
 same_names : (a b : Name) → Some a ≡ Some b → a ≡ b
 same_names a b e = cc
 
@@ -78,7 +77,7 @@ name_is (x ∷ xs) z rid name less at leads is p = (into, from)
     into : IsNamedBy p (entries (x ∷ xs)) → Some name ≡ Some (pointed_name p)
     into h =
         let rty : (entry z).value ≡ p.rty = head ∙ (bytes_eq-Decides (entry x).value p.rty).0 h.0 in
-        let same : rid ≡ p.rid = same_texts rid p.rid (leads ∙ h.1) in
+        let same : rid ≡ p.rid = same_Some rid p.rid (leads ∙ h.1) in
         ap Some (is ∙ (λ i. record { rty = rty i; rid = same i }))
 
     from : Some name ≡ Some (pointed_name p) → IsNamedBy p (entries (x ∷ xs))

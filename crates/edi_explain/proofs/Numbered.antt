@@ -1,6 +1,7 @@
 -- The records of a file by their numbers.
 use Rattle.std.proofs.Common.{◌≡◌, ◌-◌, ◌≤◌, ◌∙◌, ℕ, suc, zero, List, [], ◌∷◌, Option, Some, None, ap, sym, arith, refl, slice_get}
 use Rattle.std.specs.Option.{SomeIff}
+use Rattle.std.proofs.lemmas.Option.{same_Some}
 use Rattle.edi_line.specs.ZoneData.{ZoneData}
 use Rattle.edi_line.specs.Zones.{groups_of}
 use Rattle.edi_explain.specs.Refusals.{IsSiteAtIfAny}
@@ -27,9 +28,6 @@ pub none_numbered : (groups : List (List ZoneData)) (number place : ℕ) (group 
 none_numbered groups number place group e n there =
     let f : ◌≡◌ {A = Option (List ZoneData)} None (Some group) = e ∙ (ap (group_numbered groups) n ∙ there) in cc
 
-same_group : (a b : List ZoneData) → Some a ≡ Some b → a ≡ b
-same_group a b e = cc
-
 module _ (zones : List ZoneData) (number : ℕ) where
   pub no_site : None ≡ group_numbered (groups_of zones) number → IsSiteIfAny zones number None
   no_site e = λ site d. none_numbered (groups_of zones) number d.place d.group e d.number_is d.there
@@ -40,7 +38,7 @@ module _ (zones : List ZoneData) (number : ℕ) where
       record { place = at.0; group = group; number_is = at.1; there = at.2; has_site = h }
   its_site group None e h = λ site d.
       let f : ◌≡◌ {A = Option (List ZoneData)} (Some group) (Some d.group) = e ∙ (ap (group_numbered (groups_of zones)) d.number_is ∙ d.there) in
-      let same = same_group group d.group f in
+      let same = same_Some group d.group f in
       let g : d.has_site.head ∷ d.has_site.rest ≡ [] = sym d.has_site.is ∙ (sym same ∙ h) in cc
 
 -- the earlier record, by its place

@@ -1,6 +1,7 @@
 -- The groups of zones one after the other, and their names.
-use Rattle.std.proofs.Common.{◌≡◌, ℕ, suc, ◌+◌, ◌<◌, ◌≤◌, ◌-◌, Bool, true, false, List, [], ◌∷◌, ◌++◌, map, length, take, drop, get_or, Option, Some, None, option_map, refl, sym, ap, ◌∙◌, slice_get, subst, arith, length-drop}
+use Rattle.std.proofs.Common.{◌≡◌, ℕ, suc, ◌+◌, ◌<◌, ◌≤◌, ◌-◌, Bool, true, false, List, [], ◌∷◌, length, take, drop, Some, None, refl, sym, ap, ◌∙◌, slice_get, subst, arith, length-drop}
 use Rattle.std.proofs.lemmas.List.{take_all}
+use Rattle.std.proofs.lemmas.Option.{same_Some}
 use Rattle.edi_line.specs.ZoneData.{ZoneData, entry, entries}
 use Rattle.edi_line.specs.declared.zone.Zone.{Zone}
 use Rattle.edi_record.proofs.AttributesRead.{nothing_left}
@@ -10,7 +11,6 @@ use Rattle.edi_record.specs.declared.name.Name.{Name}
 use Rattle.edi_schema.specs.SchemaOf.{IsNamed}
 use Rattle.edi_explain.specs.RowPartners.{SharesRowName}
 use Rattle.edi_explain.specs.inner.RowPartners.{IsEarlierRow}
-use Rattle.edi_explain.proofs.Names.{same_some}
 
 pub some_group : (z : ZoneData) (zs g : List ZoneData) → Some g ≡ group_at (z ∷ zs) → groups_of (z ∷ zs) ≡ g ∷ groups_of zs
 some_group z zs g e = go (begins_group z) refl e
@@ -24,16 +24,16 @@ module _ (P : List ZoneData → Type 0) (groups : List (List ZoneData)) (place m
   earlier_row h = (q, r, less, there, here, h)
 
   pub row_passes : IsEarlierRow P groups place m → P q
-  row_passes h = subst P (same_some (sym h.3 ∙ there)) h.5
+  row_passes h = subst P (same_Some _ _ (sym h.3 ∙ there)) h.5
 
 -- earlier records with the name of this one
 module _ (groups : List (List ZoneData)) (place : ℕ) (r : List ZoneData) (name : Name) (here : slice_get groups place ≡ Some r) (named : IsNamed r name) (m : ℕ) where
   pub name_shared : IsEarlierRow (λ g. IsNamed g name) groups place m → SharesRowName groups place m
-  name_shared h = (h.0, h.1, h.2, h.3, h.4, (name, h.5, subst (λ g. IsNamed g name) (same_some (sym here ∙ h.4)) named))
+  name_shared h = (h.0, h.1, h.2, h.3, h.4, (name, h.5, subst (λ g. IsNamed g name) (same_Some _ _ (sym here ∙ h.4)) named))
 
   pub share_name : SharesRowName groups place m → IsEarlierRow (λ g. IsNamed g name) groups place m
   share_name h =
-      let own = subst (λ g. IsNamed g h.5.0) (same_some (sym h.4 ∙ here)) h.5.2 in
+      let own = subst (λ g. IsNamed g h.5.0) (same_Some _ _ (sym h.4 ∙ here)) h.5.2 in
       (h.0, h.1, h.2, h.3, h.4, record { rty = h.5.1.rty ∙ (sym own.rty ∙ named.rty); rid = h.5.1.rid ∙ (sym own.rid ∙ named.rid) })
 
 -- behind a place the groups are those of what is left

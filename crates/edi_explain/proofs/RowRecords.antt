@@ -2,7 +2,7 @@
 use Rattle.std.proofs.Common.{◌≡◌, ◌∙◌, ◌<◌, inl, inr, ℕ, Bool, true, false, cond, List, [], ◌∷◌, ◌++◌, Option, Some, None, MatchOption, length, filter, get_or, map, refl, sym, ap, subst, arith, codes, slice_get}
 use Rattle.std.specs.Prelude.{IsSomeAnd}
 use Rattle.std.specs.List.{AllZip}
-use Rattle.std.proofs.lemmas.Option.{slice_get-get_or, slice_get_within}
+use Rattle.std.proofs.lemmas.Option.{slice_get-get_or, slice_get_within, same_Some}
 use Rattle.std.proofs.lemmas.Slice.Zip.{AllZip-left, AllZip-right}
 use Rattle.edi_line.specs.ZoneData.{ZoneData, has_code}
 use Rattle.edi_line.specs.Made.{AreMadeFrom}
@@ -10,16 +10,14 @@ use Rattle.edi_record.specs.Records.{IsEndAt, States, first, is_link, points_at,
 use Rattle.edi_record.specs.Shapes.{kind_code}
 use Rattle.edi_record.specs.declared.name.Name.{Name}
 use Rattle.edi_record.specs.LinkEnds.{EndData}
-use Rattle.edi_record.specs.declared.record.Kind.{Kind}
 use Rattle.edi_record.specs.declared.record.Kind.TheVariants.{Lnk}
 use Rattle.edi_record.specs.declared.record.Record.{Record}
+use Rattle.edi_record.proofs.KindCodes.{link_is, kind_from_code}
 use Rattle.edi_plan.specs.PlanOf.{own_name}
 use Rattle.edi_schema.specs.SchemaOf.{IsNamed}
 use Rattle.edi_explain.specs.Partners.{HasEnd, SharesName}
 use Rattle.edi_explain.specs.RowPartners.{SharesRowName}
 use Rattle.edi_explain.specs.inner.RowPartners.{IsEarlierRow, IsLinked}
-use Rattle.edi_explain.proofs.Names.{same_some}
-use Rattle.edi_plan.proofs.NameLemmas.{coded_kind}
 
 some_and : {X : Type 0} (P : X → Type 0) (o : Option X) → IsSomeAnd o P → (x : X) × (o ≡ Some x) × P x
 some_and P (Some x) h = (x, refl, h)
@@ -33,8 +31,8 @@ named_record g r h = record { rty = ap first h.type; rid = ap first h.rid }
 one_name : (g : List ZoneData) (name : Name) (r : Record) → IsNamed g name → States g r → name ≡ own_name r
 one_name g name r n h =
     let own = named_record g r h in
-    let rty : name.rty ≡ (own_name r).rty = same_some (sym n.rty ∙ own.rty) in
-    let rid : name.rid ≡ (own_name r).rid = same_some (sym n.rid ∙ own.rid) in
+    let rty : name.rty ≡ (own_name r).rty = same_Some _ _ (sym n.rty ∙ own.rty) in
+    let rid : name.rid ≡ (own_name r).rid = same_Some _ _ (sym n.rid ∙ own.rid) in
     λ i. record { rty = rty i; rid = rid i }
 
 -- the ends of these zones
@@ -60,27 +58,20 @@ there_ends front (z ∷ zs) items text e (inr h) = there_ends (front ++ z ∷ []
     skipped true is not = absurd (not is)
     skipped false is not = sym (ap (λ (b : Bool). first (map (λ (x : ZoneData). x.value) (cond b (z ∷ filter (has_code (codes "FTP")) zs) (filter (has_code (codes "FTP")) zs)))) is) ∙ e
 
-link_kind : (k : Kind) → is_link k ≡ true → k ≡ Lnk
-link_kind Rattle.edi_record.specs.declared.record.Kind.TheVariants.Pno e = absurd cc
-link_kind Rattle.edi_record.specs.declared.record.Kind.TheVariants.Par e = absurd cc
-link_kind Rattle.edi_record.specs.declared.record.Kind.TheVariants.Pfe e = absurd cc
-link_kind Rattle.edi_record.specs.declared.record.Kind.TheVariants.Fea e = absurd cc
-link_kind Lnk e = refl
-
 link_has : (g : List ZoneData) (q : Record) → States g q → 0 < length q.ends → IsLinked g
 link_has g q h some = go (is_link q.kind) refl
   where
     go : (b : Bool) → is_link q.kind ≡ b → IsLinked g
     go true e =
         let more = ends_there [] g q.ends (subst (λ b. AreMadeFrom (λ f z. points_at z ≡ true) IsEndAt [] (cond b g []) q.ends) e h.ends) some in
-        (more.0, ap first h.type ∙ ap (λ k. Some (kind_code k)) (link_kind q.kind e), more.1)
+        (more.0, ap first h.type ∙ ap (λ k. Some (kind_code k)) (link_is q.kind e), more.1)
     go false e =
         let none : q.ends ≡ [] = subst (λ b. AreMadeFrom (λ f z. points_at z ≡ true) IsEndAt [] (cond b g []) q.ends) e h.ends in
         absurd (omega (arith, ap length none, some))
 
 has_link : (g : List ZoneData) (q : Record) → States g q → IsLinked g → 0 < length q.ends
 has_link g q h d =
-    let kind : q.kind ≡ Lnk = coded_kind q.kind Lnk (same_some (sym (ap first h.type) ∙ d.1)) in
+    let kind : q.kind ≡ Lnk = kind_from_code q.kind Lnk (same_Some _ _ (sym (ap first h.type) ∙ d.1)) in
     there_ends [] g q.ends d.0 d.2 (subst (λ b. AreMadeFrom (λ f z. points_at z ≡ true) IsEndAt [] (cond b g []) q.ends) (ap is_link kind) h.ends)
 
 -- ---- all of them

@@ -1,8 +1,8 @@
 -- Words that are the numbers of rules.
-use Rattle.std.proofs.Common.{◌≡◌, ◌<◌, ◌∙◌, ◌&&◌, ◌||◌, ◌⊎◌, ℕ, Bool, true, false, List, [], ◌∷◌, Option, Some, None, Result, Ok, sym, refl, ap, subst, nat_eq, nat_lt, arith, inl, inr}
+use Rattle.std.proofs.Common.{◌≡◌, ◌<◌, ◌∙◌, ◌&&◌, ◌⊎◌, ℕ, Bool, true, List, [], ◌∷◌, Option, Some, None, Result, Ok, sym, refl, ap, subst, nat_eq, nat_lt, arith, inl, inr}
 use Rattle.std.specs.Prelude.{MatchOption, decimal}
 use Rattle.std.specs.Str.Parse.{ParsesUnsigned}
-use Rattle.std.proofs.lemmas.Bool.{eqb-true, false≢true, ltb-true}
+use Rattle.std.proofs.lemmas.Bool.{eqb-true, false≢true, ltb-true, and_parts, or_cases}
 use Rattle.std.proofs.lemmas.Fmt.{parse-decimal}
 use Rattle.edi_explain.specs.Explained.{IsRuleWord, IsTextOfWord}
 use Rattle.edi_explain.specs.Rules.{is_among, rules}
@@ -14,14 +14,6 @@ abbrev are_below : ℕ → List ℕ → Bool
 are_below bound [] = true
 are_below bound (n ∷ ns) = nat_lt n bound && are_below bound ns
 
-both : (a b : Bool) → (a && b) ≡ true → (a ≡ true) × (b ≡ true)
-both true b h = (refl, h)
-both false b h = absurd (false≢true h)
-
-one_of : (a b : Bool) → (a || b) ≡ true → (a ≡ true) ⊎ (b ≡ true)
-one_of true b h = inl refl
-one_of false b h = inr h
-
 step : (bound n rule : ℕ) (inside : Bool) → nat_lt n bound ≡ true → (inside ≡ true → rule < bound) → (nat_eq rule n ≡ true) ⊎ (inside ≡ true) → rule < bound
 step bound n rule inside small more (inl e) = omega (arith, eqb-true rule n e, ltb-true n bound small)
 step bound n rule inside small more (inr k) = more k
@@ -29,8 +21,8 @@ step bound n rule inside small more (inr k) = more k
 below : (bound : ℕ) (numbers : List ℕ) (rule : ℕ) → are_below bound numbers ≡ true → is_among numbers rule ≡ true → rule < bound
 below bound [] rule all h = absurd (false≢true h)
 below bound (n ∷ ns) rule all h =
-    let parts = both (nat_lt n bound) (are_below bound ns) all in
-    step bound n rule (is_among ns rule) parts.0 (below bound ns rule parts.1) (one_of (nat_eq rule n) (is_among ns rule) h)
+    let parts = and_parts (nat_lt n bound) (are_below bound ns) all in
+    step bound n rule (is_among ns rule) parts.0 (below bound ns rule parts.1) (or_cases (nat_eq rule n) (is_among ns rule) h)
 
 rule_below : (rule : ℕ) → is_among rules rule ≡ true → rule < 65536
 rule_below rule h = below 65536 rules rule refl h

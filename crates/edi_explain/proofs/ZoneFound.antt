@@ -1,5 +1,6 @@
 -- The zone of a record by the record's number in its file.
 use Rattle.std.proofs.Common.{◌≡◌, ◌≢◌, ◌∙◌, inl, inr, ℕ, suc, List, Option, Some, None, arith, codes, option_and_then, refl, slice_get, sym, ap, subst, unwrap_or}
+use Rattle.std.proofs.lemmas.Option.{same_Some}
 use Rattle.edi_line.specs.ZoneData.{ZoneData, first}
 use Rattle.edi_line.specs.Zones.{groups_of}
 use Rattle.edi_record.specs.Records.{values}
@@ -32,12 +33,9 @@ pub line_as : (P Q : ZoneData → Option ℕ → Type 0) (name : List ℕ) (rule
 line_as P Q name rule lines f g (inl h) = inl (h.0, h.1, h.2, f h.0 h.1 h.3, h.4, h.5)
 line_as P Q name rule lines f g (inr h) = inr (λ z count q. h.0 z count (g z count q), h.1)
 
-same_group : (a b : List ZoneData) → Some a ≡ Some b → a ≡ b
-same_group a b e = cc
-
 module _ (zones : List ZoneData) (rule number : ℕ) (group : List ZoneData) (e : Some group ≡ group_numbered (groups_of zones) number) where
   own : (place : ℕ) (other : List ZoneData) → number ≡ suc place → slice_get (groups_of zones) place ≡ Some other → other ≡ group
-  own place other n there = sym (same_group group other (e ∙ (ap (group_numbered (groups_of zones)) n ∙ there)))
+  own place other n there = sym (same_Some group other (e ∙ (ap (group_numbered (groups_of zones)) n ∙ there)))
 
   pub row_zone : (z : ZoneData) (count : Option ℕ) → IsBreakingZoneOf group rule z count → IsBreakingZone zones rule number z count
   row_zone z count h = let at = numbered_group (groups_of zones) number group e in (at.0, group, at.1, at.2, h)

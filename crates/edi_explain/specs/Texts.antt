@@ -3,7 +3,7 @@ use Rattle.std.specs.Prelude.{◌≡◌, ◌++◌, ℕ, List, [], ◌∷◌, Opt
 use Rattle.edi_explain.specs.Rules.{IsTextIfAny, rules}
 use Rattle.edi_explain.specs.declared.text.RuleText.{RuleText}
 
--- a rule in words: its number, where it is broken, why there is such a rule, what usually breaks it, and what to do about it
+-- a rule in words: its number, where it is broken, why there is such a rule, what usually breaks it, and what to do
 pub record RuleWords : Type 0 where
   pub rule : ℕ
   pub sentence : List ℕ

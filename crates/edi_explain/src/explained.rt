@@ -146,8 +146,8 @@ fn explain_among(
 
 /// The lines that explain the refusal of a sheet, whose file has this name: where the broken line or record is,
 /// with the sentence of the rule; the earlier line or record that the rule speaks of; the zone with which the record
-/// breaks it; and the node that the rule speaks of. Where a line's length counts characters, and not bytes, or the file was cut in it, a hint says
-/// so.
+/// breaks it; and the node that the rule speaks of. A hint says where a line's length counts characters and not bytes,
+/// or where the file was cut.
 pub fn explain_sheet(
     alloc: Global,
     schema: &Schema,

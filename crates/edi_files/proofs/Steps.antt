@@ -1,7 +1,7 @@
 -- How steps over a folder go on.
 use Rattle.std.proofs.Common.{◌≡◌, ◌≢◌, ◌⊎◌, ℕ, List, [], ◌++◌, Option, Some, None, IfSome, inl, inr, sym, ◌∙◌, ap, subst, ⊎_elim, arith}
 use Rattle.std.specs.Io.KnownBytes.{Appends}
-use Rattle.edi_files.specs.Folders.{Goes, IsSpare, Leavings}
+use Rattle.edi_files.specs.Folders.{Goes, Leavings}
 use Rattle.edi_files.specs.Outputs.{IsWholeOrNew}
 
 -- nothing was done

@@ -1,5 +1,5 @@
 -- Lines that are appended, and what a reader finds in them.
-use Rattle.std.proofs.Common.{◌≡◌, ◌∙◌, ℕ, ◌+◌, ◌-◌, ◌<◌, ◌≤◌, cond, ◌==◌, List, [], ◌∷◌, ◌++◌, Some, Ok, Err, OnOk, Result, append_assoc, append-nil, arith, ap, ap₂, get_or, length, map, option_and_then, refl, subst, sym, take}
+use Rattle.std.proofs.Common.{◌≡◌, ◌∙◌, ℕ, ◌+◌, ◌-◌, ◌<◌, ◌≤◌, cond, ◌==◌, List, [], ◌∷◌, ◌++◌, Some, append_assoc, append-nil, arith, ap, ap₂, get_or, length, map, option_and_then, refl, subst, sym, take}
 use Rattle.std.specs.List.{AllByRecursion, flat_map, slice_split}
 use Rattle.std.specs.Str.Lines.{lines, lines_of_parts, strip_carriage_return}
 use Rattle.std.proofs.lemmas.Grind.{flat_map-append}
@@ -12,17 +12,13 @@ use Rattle.json.specs.Token.{Token}
 use Rattle.json.specs.Tree.{depth, json_tokens}
 use Rattle.json.proofs.Printed.Trees.{value-json_tokens}
 use Rattle.edi_line.specs.Bytes.{line_feed}
+use Rattle.edi_line.proofs.EachElement.{each_of_both}
 use Rattle.edi_report.specs.Reports.{Report}
 use Rattle.edi_json.specs.Listed.{Listed}
 use Rattle.edi_json.specs.Texts.{ReadsAs, json_line, json_text}
 use Rattle.edi_json.specs.Values.{listed_value, listed_values}
 use Rattle.edi_json.specs.inner.Lines.{HasLines, IsValueInOneLine, IsPlainText}
-use Rattle.edi_json.proofs.PlainTexts.{IsPlainToken, all_append, no_feed, no_return, plain_print}
-
--- what follows from a fact of an `Ok` is one too
-pub ended : {T E : Type 0} (r : Result T E) (P Q : Type 0) → (P → Q) → OnOk r P → OnOk r Q
-ended (Ok x) P Q then holds = then holds
-ended (Err e) P Q then holds = tt
+use Rattle.edi_json.proofs.PlainTexts.{IsPlainToken, no_feed, no_return, plain_print}
 
 -- what is appended one after the other
 pub two_more : {X : Type 0} (old mid new first second : List X) → mid ≡ old ++ first → new ≡ mid ++ second → new ≡ old ++ (first ++ second)
@@ -60,7 +56,7 @@ pub more_lines : (old mid new : List ℕ) (first second : List Json) → HasLine
 more_lines old mid new first second h k = record {
   text = k.text ∙ (ap (λ xs. xs ++ json_text second) h.text ∙ (append_assoc old (json_text first) (json_text second)
       ∙ ap (λ xs. old ++ xs) (sym (flat_map-append json_line first second))));
-  lines = all_append IsValueInOneLine first second h.lines k.lines;
+  lines = each_of_both IsValueInOneLine first second h.lines k.lines;
 }
 
 -- the same of lists of records

@@ -4,13 +4,10 @@ use Rattle.std.specs.Prelude.{⊤}
 use Rattle.std.specs.Char.{digit_char}
 use Rattle.std.specs.Fmt.{digit_glyph, digits, digits_onto}
 use Rattle.std.specs.List.{AllByRecursion}
+use Rattle.edi_line.proofs.EachElement.{each_of_both}
 use Rattle.json.specs.Token.{Token, begin_object, end_object, begin_array, end_array, key, string, number, boolean, null, bad}
 use Rattle.json.specs.Print.{begins, ends, escape, escape_byte, escape_letter, print, print_from, separator, token_text}
 use Rattle.edi_json.specs.inner.Lines.{IsPlainText}
-
-pub all_append : {X : Type 0} (P : X → Type 0) (xs ys : List X) → AllByRecursion P xs → AllByRecursion P ys → AllByRecursion P (xs ++ ys)
-all_append P [] ys h k = k
-all_append P (x ∷ xs) ys h k = (h.0, all_append P xs ys h.1 k)
 
 -- ---- strings
 
@@ -51,10 +48,10 @@ plain_byte x =
 
 plain_escape : (s : List ℕ) → IsPlainText (escape s)
 plain_escape [] = tt
-plain_escape (x ∷ s) = all_append _ (escape_byte x) (escape s) (plain_byte x) (plain_escape s)
+plain_escape (x ∷ s) = each_of_both _ (escape_byte x) (escape s) (plain_byte x) (plain_escape s)
 
 plain_quoted : (s : List ℕ) → IsPlainText (34 ∷ (escape s ++ 34 ∷ []))
-plain_quoted s = (omega arith, all_append _ (escape s) (34 ∷ []) (plain_escape s) (omega arith, tt))
+plain_quoted s = (omega arith, each_of_both _ (escape s) (34 ∷ []) (plain_escape s) (omega arith, tt))
 
 -- ---- numbers
 
@@ -90,7 +87,7 @@ plain_token begin_object h = (omega arith, tt)
 plain_token end_object h = (omega arith, tt)
 plain_token begin_array h = (omega arith, tt)
 plain_token end_array h = (omega arith, tt)
-plain_token (key s) h = all_append _ (34 ∷ (escape s ++ 34 ∷ [])) (58 ∷ []) (plain_quoted s) (omega arith, tt)
+plain_token (key s) h = each_of_both _ (34 ∷ (escape s ++ 34 ∷ [])) (58 ∷ []) (plain_quoted s) (omega arith, tt)
 plain_token (string s) h = plain_quoted s
 plain_token (number s) h = h
 plain_token (boolean true) h = (omega arith, (omega arith, (omega arith, (omega arith, tt))))
@@ -102,9 +99,9 @@ plain_from : (after : Bool) (ts : List Token) → AllByRecursion IsPlainToken ts
 unfolding print_from
 plain_from after [] h = tt
 plain_from after (t ∷ ts) h =
-    all_append _ (separator after t) (token_text t ++ print_from (ends t) ts)
+    each_of_both _ (separator after t) (token_text t ++ print_from (ends t) ts)
     (either (after && begins t) (44 ∷ []) [] (λ e. (omega arith, tt)) (λ e. tt))
-    (all_append _ (token_text t) (print_from (ends t) ts) (plain_token t h.0) (plain_from (ends t) ts h.1))
+    (each_of_both _ (token_text t) (print_from (ends t) ts) (plain_token t h.0) (plain_from (ends t) ts h.1))
 
 pub plain_print : (ts : List Token) → AllByRecursion IsPlainToken ts → IsPlainText (print ts)
 plain_print ts h = plain_from false ts h

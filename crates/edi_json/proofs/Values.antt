@@ -1,6 +1,7 @@
 -- The values of lines: they are shallow, and their numbers are printed.
 use Rattle.std.proofs.Common.{◌≡◌, ℕ, ◌≤◌, Bool, true, false, List, [], ◌∷◌, ◌++◌, Option, Some, None, append_assoc, arith, codes, refl}
 use Rattle.std.specs.List.{AllByRecursion}
+use Rattle.edi_line.proofs.EachElement.{each_of_both}
 use Rattle.json.specs.Json.{Items, max_depth}
 use Rattle.json.specs.Token.{Token}
 use Rattle.json.specs.Tree.{depth, items_depth, items_tokens, json_tokens}
@@ -9,7 +10,7 @@ use Rattle.edi_report.specs.declared.parts.Parts.{Parts}
 use Rattle.edi_report.specs.declared.site.Site.{Site}
 use Rattle.edi_json.specs.Values.{charsets_value, counts_value, name_if, part_names, record_value, site_or_null, text_or_null}
 use Rattle.edi_json.specs.inner.Tokens.{name_tokens}
-use Rattle.edi_json.proofs.PlainTexts.{IsPlainToken, all_append, plain_decimal}
+use Rattle.edi_json.proofs.PlainTexts.{IsPlainToken, plain_decimal}
 
 -- ---- names of parts
 
@@ -48,9 +49,9 @@ site_shallow (Some site) = omega arith
 
 pub record_plain : (mark : List ℕ) (kind : Kind) (a b : Option Site) (parts : Parts) → AllByRecursion IsPlainToken (json_tokens (record_value mark kind a b parts))
 record_plain mark kind a b parts =
-    let behind = all_append IsPlainToken (items_tokens (part_names parts)) (Token.end_object ∷ []) (plain_names parts) (tt, tt) in
-    let there = all_append IsPlainToken (json_tokens (site_or_null b)) _ (site_plain b) (tt, (tt, behind)) in
-    let here = all_append IsPlainToken (json_tokens (site_or_null a)) _ (site_plain a) (tt, there) in
+    let behind = each_of_both IsPlainToken (items_tokens (part_names parts)) (Token.end_object ∷ []) (plain_names parts) (tt, tt) in
+    let there = each_of_both IsPlainToken (json_tokens (site_or_null b)) _ (site_plain b) (tt, (tt, behind)) in
+    let here = each_of_both IsPlainToken (json_tokens (site_or_null a)) _ (site_plain a) (tt, there) in
     (tt, (tt, (plain_decimal 1, (tt, (tt, (tt, (tt, (tt, (tt, (tt, here))))))))))
 
 pub record_shallow : (mark : List ℕ) (kind : Kind) (a b : Option Site) (parts : Parts) → depth (record_value mark kind a b parts) ≤ max_depth
@@ -71,8 +72,8 @@ charsets_shallow a b = omega (arith, text_shallow a, text_shallow b)
 
 pub charsets_plain : (a b : Option (List ℕ)) → AllByRecursion IsPlainToken (json_tokens (charsets_value a b))
 charsets_plain a b =
-    let there = all_append IsPlainToken (json_tokens (text_or_null b)) (Token.end_object ∷ []) (text_plain b) (tt, tt) in
-    let here = all_append IsPlainToken (json_tokens (text_or_null a)) _ (text_plain a) (tt, there) in
+    let there = each_of_both IsPlainToken (json_tokens (text_or_null b)) (Token.end_object ∷ []) (text_plain b) (tt, tt) in
+    let here = each_of_both IsPlainToken (json_tokens (text_or_null a)) _ (text_plain a) (tt, there) in
     (tt, (tt, (plain_decimal 1, (tt, (tt, (tt, here))))))
 
 pub counts_shallow : (gone added changed : ℕ) → depth (counts_value gone added changed) ≤ max_depth

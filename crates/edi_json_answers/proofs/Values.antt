@@ -1,6 +1,7 @@
 -- The values of answers and digests: they are shallow, and their numbers are printed.
 use Rattle.std.proofs.Common.{◌≡◌, ◌≤◌, ℕ, List, [], ◌∷◌, Option, Some, None, arith, codes, length, refl}
 use Rattle.std.specs.List.{AllByRecursion}
+use Rattle.edi_line.proofs.EachElement.{each_of_both}
 use Rattle.json.specs.Json.{Json, max_depth, no_members, null}
 use Rattle.json.specs.Token.{Token}
 use Rattle.json.specs.Tree.{depth, json_tokens}
@@ -16,7 +17,7 @@ use Rattle.edi_outcome.specs.Words.{text_in, words_of_fault}
 use Rattle.edi_outcome.specs.declared.outcome.Outcome.{Outcome}
 use Rattle.edi_outcome.specs.declared.outcome.Outcome.TheVariants.{Accepted, Same, Different, Pairs, Unpaired, WrongPairing, Fault}
 use Rattle.edi_json.specs.Values.{number_value, text_value}
-use Rattle.edi_json.proofs.PlainTexts.{IsPlainToken, all_append, plain_decimal}
+use Rattle.edi_json.proofs.PlainTexts.{IsPlainToken, plain_decimal}
 use Rattle.edi_json_answers.specs.Digests.{digest_value}
 use Rattle.edi_json_answers.specs.Answers.{answer_value, broken_at_value, broken_value, different_value, failed_value, fault_value, first_word, number_or_null, outcome_value, reasoned_value, refused_value, schema_value, sheet_value, source_word, wrong_pairing_value}
 
@@ -56,10 +57,10 @@ different_fit line =
 
 refused_fit : (file : List ℕ) (rule line place why : Json) → IsFlat rule → IsFlat line → IsFlat place → IsFlat why → IsFit (refused_value file rule line place why)
 refused_fit file rule line place why rule_flat line_flat place_flat why_flat =
-    let ends = all_append IsPlainToken (json_tokens why) (Token.end_object ∷ []) why_flat.plain (tt, tt) in
-    let places = all_append IsPlainToken (json_tokens place) _ place_flat.plain (tt, ends) in
-    let lines = all_append IsPlainToken (json_tokens line) _ line_flat.plain (tt, places) in
-    let rules = all_append IsPlainToken (json_tokens rule) _ rule_flat.plain (tt, lines) in
+    let ends = each_of_both IsPlainToken (json_tokens why) (Token.end_object ∷ []) why_flat.plain (tt, tt) in
+    let places = each_of_both IsPlainToken (json_tokens place) _ place_flat.plain (tt, ends) in
+    let lines = each_of_both IsPlainToken (json_tokens line) _ line_flat.plain (tt, places) in
+    let rules = each_of_both IsPlainToken (json_tokens rule) _ rule_flat.plain (tt, lines) in
     record {
       shallow = omega (arith, rule_flat.flat, line_flat.flat, place_flat.flat, why_flat.flat);
       plain = (tt, (tt, (plain_decimal 1, (tt, (tt, (tt, (tt, (tt, (tt, (tt, rules))))))))));
@@ -91,8 +92,8 @@ pub broken_at_fit : (what name : List ℕ) (rule : ℕ) (line place : Option ℕ
 broken_at_fit what name rule line place =
     let line_flat = number_or_null_flat line in
     let place_flat = number_or_null_flat place in
-    let places = all_append IsPlainToken (json_tokens (number_or_null place)) (Token.end_object ∷ []) place_flat.plain (tt, tt) in
-    let lines = all_append IsPlainToken (json_tokens (number_or_null line)) _ line_flat.plain (tt, places) in
+    let places = each_of_both IsPlainToken (json_tokens (number_or_null place)) (Token.end_object ∷ []) place_flat.plain (tt, tt) in
+    let lines = each_of_both IsPlainToken (json_tokens (number_or_null line)) _ line_flat.plain (tt, places) in
     record {
       shallow = omega (arith, line_flat.flat, place_flat.flat);
       plain = (tt, (tt, (plain_decimal 1, (tt, (tt, (tt, (tt, (tt, (plain_decimal rule, (tt, lines))))))))));

@@ -1,4 +1,4 @@
-//! What a run came to, digests, words and all that sheets break, as lines of JSON (docs/JSON.md, "Answers" and what follows).
+//! What a run came to, digests, words and all that sheets break, as lines of JSON (docs/JSON.md, from "Answers" on).
 #![tactic(auto)]
 
 pub mod answers;

@@ -3,14 +3,13 @@ use Rattle.std.proofs.Common.{◌≡◌, ℕ, ◌<◌, ◌⊎◌, Bool, true, fa
 use Rattle.std.specs.Prelude.{Any}
 use Rattle.std.specs.List.{list_all}
 use Rattle.std.proofs.lemmas.Bool.{and_parts, ltb-true, both_ways}
-use Rattle.std.proofs.Math.ListN.{get_or-append}
-use Rattle.std.proofs.lemmas.List.{length_push}
 use Rattle.std.proofs.lemmas.List.Elements.{All-push}
 use Rattle.std.proofs.lemmas.List.Quantifiers.{Any-push, all_pairs_push}
 use Rattle.edi_line.specs.AllBroken.{StandsBefore, AreAllBroken}
 use Rattle.edi_line.specs.Refusal.{Test, test, BreaksTest}
 use Rattle.edi_line.specs.inner.AllBroken.{with_broken}
 use Rattle.edi_line.specs.declared.broken.BrokenRule.{BrokenRule}
+use Rattle.edi_line.proofs.EachElement.{any_more}
 
 -- a rule at a place
 abbrev pub Broken : Type 1
@@ -41,10 +40,6 @@ AllBefore B rule at = (r p : ℕ) → B r p → (p < at) ⊎ ((p ≡ at) × (r <
 abbrev pub one_more : Broken → ℕ → ℕ → Broken
 one_more B rule at r p = B r p ⊎ ((r ≡ rule) × (p ≡ at))
 
-Any-more : {X : Type 0} (P : X → Type 0) (xs : List X) (y : X) → Any P xs → Any P (xs ++ y ∷ [])
-Any-more P xs y (k, x, below, is, holds) =
-    (k, x, omega (arith, length_push xs y, below), get_or-append xs (y ∷ []) x k below ∙ is, holds)
-
 pub all_push : (B : Broken) (list : List BrokenRule) (rule at : ℕ) → AreAllBroken B list → AllBefore B rule at → AreAllBroken (one_more B rule at) (list ++ record { rule = rule; at = at } ∷ [])
 all_push B list rule at h before = record {
   each = All-push (λ it. one_more B rule at it.rule it.at) list this (λ k d below. inl (h.each k d below)) (inr (refl, refl));
@@ -56,7 +51,7 @@ all_push B list rule at h before = record {
     this = record { rule = rule; at = at }
 
     found : (r p : ℕ) → one_more B rule at r p → Any (λ it. (it.rule ≡ r) × (it.at ≡ p)) (list ++ this ∷ [])
-    found r p (inl broken) = Any-more (λ it. (it.rule ≡ r) × (it.at ≡ p)) list this (h.all r p broken)
+    found r p (inl broken) = any_more (λ it. (it.rule ≡ r) × (it.at ≡ p)) list this (h.all r p broken)
     found r p (inr same) = Any-push (λ it. (it.rule ≡ r) × (it.at ≡ p)) list this (sym same.0, sym same.1)
 
 -- ---- the broken ones of some rules, all at one place

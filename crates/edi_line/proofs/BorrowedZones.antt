@@ -23,10 +23,7 @@ use Rattle.edi_line.specs.declared.reading.Reader.{Reader}
 use Rattle.edi_line.specs.declared.zone.Zone.{Zone}
 use Rattle.edi_line.specs.declared.zone_list.ZoneList.{ZoneList}
 use Rattle.edi_line.specs.inner.ZoneLists.{done_in, open_in}
-
-all_to : {X : Type 0} (P Q : X → Type 0) → ((x : X) → P x → Q x) → (xs : List X) → AllByRecursion P xs → AllByRecursion Q xs
-all_to P Q to [] all = tt
-all_to P Q to (x ∷ xs) all = (to x all.0, all_to P Q to xs all.1)
+use Rattle.edi_line.proofs.EachElement.{each_weaker}
 
 all_and_one : {X : Type 0} (P : X → Type 0) (xs : List X) (x : X) → AllByRecursion P xs → P x → AllByRecursion P (xs ++ x ∷ [])
 all_and_one P [] x all one = (one, tt)
@@ -79,7 +76,7 @@ borrowed_more : (lines : List Reading) (line : Reading) (z : Zone) → IsBorrowe
 borrowed_more lines line z borrowed = λ owned. continued_more lines line z.line (borrowed owned)
 
 all_borrowed_more : (lines : List Reading) (line : Reading) (zones : List Zone) → AllByRecursion (IsBorrowedUnlessContinued lines) zones → AllByRecursion (IsBorrowedUnlessContinued (lines ++ line ∷ [])) zones
-all_borrowed_more lines line zones all = all_to (IsBorrowedUnlessContinued lines) (IsBorrowedUnlessContinued (lines ++ line ∷ [])) (borrowed_more lines line) zones all
+all_borrowed_more lines line zones all = each_weaker (IsBorrowedUnlessContinued lines) (IsBorrowedUnlessContinued (lines ++ line ∷ [])) (borrowed_more lines line) zones all
 
 pub closed_borrowed : (lines : List Reading) (r : Reader) → BorrowsLines lines r → AllByRecursion (IsBorrowedUnlessContinued lines) (done_in r.zones ++ option_to_list (open_in r.zones))
 closed_borrowed lines r borrows = all_and_last (IsBorrowedUnlessContinued lines) (λ z. IsBorrowedUnlessContinued lines z × IsOpenAt lines z.line) (λ z both. both.0) (done_in r.zones) (open_in r.zones) borrows.done borrows.open_zone

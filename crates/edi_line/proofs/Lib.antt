@@ -33,3 +33,5 @@ pub mod BorrowedZones
 pub mod ZoneLists
 pub mod AllBroken
 pub mod LinesBroken
+pub mod EachElement
+pub mod Truths

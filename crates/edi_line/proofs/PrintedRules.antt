@@ -21,6 +21,7 @@ use Rattle.edi_line.proofs.Readings.{rule_read}
 use Rattle.edi_line.proofs.Rules.{noted_seen, no_rule_broken, no_cut_of_none}
 use Rattle.edi_line.proofs.KindsSaid.{zone_same, inner_same}
 use Rattle.edi_line.proofs.Printed.{said, zone_readings, lines_broken}
+use Rattle.edi_line.proofs.Truths.{or_false, or_true}
 
 -- these lines break no rule where this has been seen, and then this is seen
 abbrev Runs : Order → List Reading → Order → Type 0
@@ -71,14 +72,6 @@ step_runs z zs p seen last cse rty eom records none note more =
 abbrev ArePrintable : List ZoneData → Type 0
 ArePrintable zs = AllByRecursion IsPrintable zs
 
-or_same : (b : Bool) → (b || false) ≡ b
-or_same true = refl
-or_same false = refl
-
-or_true : (b : Bool) → (b || true) ≡ true
-or_true true = refl
-or_true false = refl
-
 -- a zone within a group has no code of its own
 only_other : (kind : ZoneKind) → is_zone_kind kind ≡ true → is_inner_kind kind ≡ true → kind ≡ Other
 only_other Bom zone inner = cc
@@ -96,17 +89,17 @@ others_run [] rest cse records last p h more = more
 others_run (z ∷ zs) rest cse records last p h more =
     let other : kind_of z.code ≡ Other = only_other (kind_of z.code) (sym (zone_same z.code) ∙ p.0.zone) (sym (inner_same z.code) ∙ h.0) in
     step_runs z (zs ++ rest) p.0 (in_file cse true false records) last cse true false records (rw other refl)
-    (rw other (ap (λ x. in_file x true false (records + 0)) (or_same cse) ∙ ap (λ n. in_file cse true false n) (let e : records + 0 ≡ records = omega arith in e)))
+    (rw other (ap (λ x. in_file x true false (records + 0)) (or_false cse) ∙ ap (λ n. in_file cse true false n) (let e : records + 0 ≡ records = omega arith in e)))
     (others_run zs rest cse records last p.1 h.1 more)
 
 few_records : (n : ℕ) (rty cse eom : Bool) → n < 9999999 → rule_of_kind (in_file cse rty false n) Rty ≡ None
 few_records n rty cse eom h = rw (ne_eqb n 9999999 (λ e. omega arith)) refl
 
 rty_noted : (cse rty : Bool) (n : ℕ) → noted_kind (in_file cse rty false n) Rty ≡ in_file cse true false (n + 1)
-rty_noted cse rty n = ap (λ x. in_file x (rty || true) false (n + 1)) (or_same cse) ∙ ap (λ x. in_file cse x false (n + 1)) (or_true rty)
+rty_noted cse rty n = ap (λ x. in_file x (rty || true) false (n + 1)) (or_false cse) ∙ ap (λ x. in_file cse x false (n + 1)) (or_true rty)
 
 eom_noted : (cse rty : Bool) (n : ℕ) → noted_kind (in_file cse rty false n) Eom ≡ in_file cse rty true n
-eom_noted cse rty n = ap (λ x. in_file x (rty || false) true (n + 0)) (or_same cse) ∙ ap (λ x. in_file cse x true (n + 0)) (or_same rty) ∙ ap (λ x. in_file cse rty true x) (let e : n + 0 ≡ n = omega arith in e)
+eom_noted cse rty n = ap (λ x. in_file x (rty || false) true (n + 0)) (or_false cse) ∙ ap (λ x. in_file cse x true (n + 0)) (or_false rty) ∙ ap (λ x. in_file cse rty true x) (let e : n + 0 ≡ n = omega arith in e)
 
 -- the printable zones of lists
 printable_left : (xs ys : List ZoneData) → ArePrintable (xs ++ ys) → ArePrintable xs

@@ -1,5 +1,5 @@
 -- The zones of a file that breaks no rule have their shape.
-use Rattle.std.proofs.Common.{◌≡◌, ℕ, suc, ◌+◌, Bool, true, false, ◌||◌, Option, Some, None, Result, Ok, Err, List, [], ◌∷◌, ◌++◌, length, refl, sym, ap, ◌∙◌, subst, IfOk, IfSome, option_to_list, Vec, Global, inl, inr, arith, ◌≢◌, ◌≤◌, bytes_eq, codes, eq-eqb, lit≤}
+use Rattle.std.proofs.Common.{◌≡◌, ℕ, suc, ◌+◌, Bool, true, false, Option, Some, None, Result, Ok, Err, List, [], ◌∷◌, ◌++◌, length, refl, sym, ap, ◌∙◌, subst, IfOk, IfSome, option_to_list, Vec, Global, inl, inr, arith, ◌≢◌, ◌≤◌, bytes_eq, codes, eq-eqb, lit≤}
 use Rattle.std.specs.List.{AllByRecursion, flat_map}
 use Rattle.std.proofs.lemmas.Bool.{and_from, or_left}
 use Rattle.std.proofs.lemmas.List.{append_assoc, append-nil}
@@ -23,6 +23,7 @@ use Rattle.edi_line.proofs.FirstBroken.{none_broken}
 use Rattle.edi_line.proofs.KindsSaid.{inner_same}
 use Rattle.edi_line.proofs.Said.{code_bom, code_cse, code_rty, code_eom, code_inner}
 use Rattle.edi_line.proofs.Rules.{IsFaultless, noted_seen, rule_broken, closed_zones}
+use Rattle.edi_line.proofs.Truths.{or_true}
 
 -- no line breaks a rule, and an end comes
 abbrev IsGood : Order → List Reading → Type 0
@@ -229,10 +230,6 @@ shaped z zones head f = (
     tail_is = f.is_body.tail_is;
   },
 )
-
-or_true : (b : Bool) → (b || true) ≡ true
-or_true true = refl
-or_true false = refl
 
 -- after the BOM
 abbrev noted_started : Bool → ℕ → Order

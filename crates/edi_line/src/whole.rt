@@ -77,11 +77,11 @@ impl Gathering for Pieces {
     }
 }
 
-/// All bytes that the source gives before it has none left, which are at most `limit`: in a list, or in pieces of which each
-/// can be let go by itself.
+/// All bytes that the source gives before it has none left, which are at most `limit`: in a list, or in pieces that can
+/// be let go one by one.
 ///
-/// It makes at most `limit` + 2 reads. After a fault the source has lost what was read. It stands apart from its callers, so
-/// that what they read one after the other takes the stack of one buffer.
+/// It makes at most `limit` + 2 reads. After a fault the source has lost what was read. It isn't inlined, so that callers
+/// who read several sources take the stack of one buffer.
 #[inline(never)]
 pub fn read_whole<R: ByteIn, G: Gathering + Drop>(
     alloc: Global,

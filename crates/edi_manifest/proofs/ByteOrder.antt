@@ -1,20 +1,10 @@
 -- The order of bytes is total, and its ties are equal.
-use Rattle.std.proofs.Common.{◌≡◌, [], ◌∷◌, refl, ap₂, Ordering, Less, Equal, Greater}
+use Rattle.std.proofs.Common.{[], ◌∷◌, refl, ap₂}
 use Rattle.std.specs.Cmp.{IsTotalOrder}
-use Rattle.std.specs.Ordering.{ordering_then}
 use Rattle.std.proofs.lemmas.Cmp.{lists_total, nat_cmp_total}
 use Rattle.std.proofs.lemmas.Map.Lookups.{CmpEqualImpliesEq, exact_unsigned}
+use Rattle.edi_line.proofs.Truths.{first_tied, then_tied}
 use Rattle.edi_record.specs.Orders.{bytes_cmp}
-
-first_tied : (o p : Ordering) → ordering_then o p ≡ Equal → o ≡ Equal
-first_tied Less p h = h
-first_tied Equal p h = refl
-first_tied Greater p h = h
-
-then_tied : (o p : Ordering) → ordering_then o p ≡ Equal → p ≡ Equal
-then_tied Less p h = cc
-then_tied Equal p h = h
-then_tied Greater p h = cc
 
 pub bytes_total : IsTotalOrder bytes_cmp
 bytes_total = lists_total nat_cmp_total

@@ -1,7 +1,6 @@
 -- A matching holds exactly if what is asked of each record holds.
-use Rattle.std.proofs.Common.{◌≡◌, ◌↔◌, ℕ, ◌+◌, ◌<◌, Bool, true, true≢false, IsTrue, List, ◌∷◌, drop, length, Option, None, Some, Result, Ok, Err, IfOk, get_or, refl, sym, ap, ◌∙◌, subst, arith, add-one, drop-cons}
+use Rattle.std.proofs.Common.{◌≡◌, ◌↔◌, ℕ, ◌+◌, ◌<◌, Bool, true, IsTrue, List, ◌∷◌, drop, length, Option, Some, Result, Ok, Err, IfOk, get_or, sym, ap, ◌∙◌, subst, arith, add-one, drop-cons}
 use Rattle.std.specs.List.{AllByRecursion}
-use Rattle.std.specs.Option.{is_some}
 use Rattle.edi_record.specs.declared.record.Kind.TheVariants.{Par}
 use Rattle.edi_schema.specs.Classes.{Classes}
 use Rattle.edi_plan.specs.Plans.{PlanData, IsPlace, record_at}
@@ -12,10 +11,6 @@ use Rattle.edi_matching.specs.inner.Marks.{GoApart}
 use Rattle.edi_matching.specs.inner.Proposals.{Proposal, HoldsAt, IsCarriedOnto, proposal_of}
 use Rattle.edi_matching.specs.declared.matching.Matching.{Matching}
 use Rattle.edi_matching.proofs.Totals.{goes_within}
-
-pub some_is : {X : Type 0} (o : Option X) → is_some o ≡ true → (x : X) × (o ≡ Some x)
-some_is None e = absurd (true≢false (sym e))
-some_is (Some x) e = (x, refl)
 
 -- one end more
 pub matched_more : (to : List (Option ℕ)) (ends : List PlanEnd) (i : ℕ) (x : PlanEnd) → i < length ends → x ≡ get_or ends i x → IsMatched to x.target

@@ -7,8 +7,9 @@ use Rattle.std.specs.Cmp.{IsTotalOrder}
 use Rattle.std.specs.List.Sorted.{IsPartitionPoint, IsPartitionedBy}
 use Rattle.std.specs.Ordering.{is_eq, is_gt, ordering_reverse}
 use Rattle.std.proofs.lemmas.Cmp.{upto}
+use Rattle.edi_line.proofs.Truths.{less_is}
 use Rattle.edi_matching.specs.inner.Additions.{AreInOrder, IsFirstFrom}
-use Rattle.edi_matching.proofs.LoneKeys.{IsUpTo, less_is, not_less, rises}
+use Rattle.edi_matching.proofs.LoneKeys.{IsUpTo, not_less, rises}
 
 module _ {K : Type 0} (cmp : K → K → Ordering) (eq : K → K → Bool) (total : IsTotalOrder cmp) (ties : (x y : K) → eq x y ≡ is_eq (cmp x y)) where
   -- what is up to one that is less is less

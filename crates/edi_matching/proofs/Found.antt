@@ -9,6 +9,7 @@ use Rattle.std.proofs.lemmas.List.{get_or-map}
 use Rattle.std.proofs.lemmas.List.Sorted.{All-permutation, Contains-permutation}
 use Rattle.std.proofs.lemmas.Map.Lookups.{CmpEqualImpliesEq}
 use Rattle.edi_line.specs.Refusal.{IsUnbroken}
+use Rattle.edi_line.proofs.Truths.{first_not_less}
 use Rattle.edi_record.specs.Orders.{points_cmp, point_cmp}
 use Rattle.edi_record.specs.declared.record.Kind.{Kind}
 use Rattle.edi_record.specs.declared.record.Kind.TheVariants.{Pno, Par}
@@ -23,7 +24,7 @@ use Rattle.edi_plan.proofs.Orders.{attribute_total, attribute_exact, points_tota
 use Rattle.edi_plan.proofs.PlaceLemmas.{has_place, place_there, place_of_kind}
 use Rattle.edi_topo.specs.Arcs.{forward_keys}
 use Rattle.edi_topo.specs.Directions.{forward}
-use Rattle.edi_topo.specs.inner.Keyed.{keyed}
+use Rattle.edi_topo.specs.Ranking.{keyed}
 use Rattle.edi_topo.specs.NodeKeys.{node_key, node_keys, node_key_cmp, no_node, no_point}
 use Rattle.edi_topo.specs.TopologyRules.{BreaksTopologyRule}
 use Rattle.edi_topo.specs.declared.node_key.NodeKey.{NodeKey}
@@ -136,14 +137,9 @@ module _ (p q : PlanData) (whole : IsWholePlan q) (sound : IsUnbroken (BreaksTop
 
 -- sorted by pairs is sorted by keys
 
-not_less : (a b : Ordering) → is_lt (ordering_then a b) ≡ false → is_lt a ≡ false
-not_less Less b e = e
-not_less Equal b e = refl
-not_less Greater b e = refl
-
 pub keys_sorted : {K : Type 0} (cmp : K → K → Ordering) (pairs : List (K × ℕ)) → IsSorted (λ x y. ordering_then (cmp x.0 y.0) (nat_cmp x.1 y.1)) pairs
     → IsSortedBy (λ x y. is_lt (cmp x.0 y.0)) pairs
-keys_sorted cmp pairs sorted k d low high = not_less (cmp (get_or pairs (k + 1) d).0 (get_or pairs k d).0) (nat_cmp (get_or pairs (k + 1) d).1 (get_or pairs k d).1) (sorted k d low high)
+keys_sorted cmp pairs sorted k d low high = first_not_less (cmp (get_or pairs (k + 1) d).0 (get_or pairs k d).0) (nat_cmp (get_or pairs (k + 1) d).1 (get_or pairs k d).1) (sorted k d low high)
 
 -- the same of what the code has: the plans of the two, their records as they were found, and the key as it was made
 

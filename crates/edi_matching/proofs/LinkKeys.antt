@@ -16,11 +16,11 @@ use Rattle.edi_rank.specs.Keys.{end_cmp, ends_key, link_key, link_key_cmp, numbe
 use Rattle.edi_rank.specs.declared.keys.LinkKey.{LinkKey}
 use Rattle.edi_rank.specs.Labelling.{turned_at}
 use Rattle.edi_rank.specs.Same.{CarriesRecord, class_after, moved}
-use Rattle.edi_rank.proofs.KeysPreserved.{all_weaker}
 use Rattle.edi_rank.proofs.Orders.{end_total, end_exact, link_key_total}
 use Rattle.edi_rank.proofs.SameLaws.{map-map, map_alike}
 use Rattle.std.proofs.Common.{IfOk, MatchOption, None, Some, Result, Ok, Err, true≢false}
 use Rattle.std.specs.Option.{is_some}
+use Rattle.edi_line.proofs.EachElement.{each_weaker}
 use Rattle.edi_rank.specs.contracts.keys.LinkKeyOrd.TheImpl.{ghosts as links}
 use Rattle.edi_rank.proofs.KeyOrders.{link_order}
 use Rattle.edi_matching.specs.Matchings.{IsMatched, MatchingHolds, targets_of}
@@ -68,7 +68,7 @@ module _ (m : Proposal) (is : m.targets ≡ targets_of m.to) (holds : MatchingHo
       → CarriesRecord m.classes to_there (turned_at m.turned) i (record_at m.plan i) b → link_key m.other (λ k. k) b ≡ moved_key m.plan to_there class_there (record_at m.plan i)
   key_carried b ends c =
       let a = record_at m.plan i in
-      let x = ends_same m.plan m.other to_there a.ends b.ends (all_weaker (λ (e : PlanEnd). IsMatched m.to e.target) (SameKind m.plan m.other to_there) same_kind a.ends ends) c.origin c.others in
+      let x = ends_same m.plan m.other to_there a.ends b.ends (each_weaker (λ (e : PlanEnd). IsMatched m.to e.target) (SameKind m.plan m.other to_there) same_kind a.ends ends) c.origin c.others in
       let k = sym (sort_by-same attribute_cmp attribute_total attribute_exact a.attributes b.attributes (counts_from_permutation _ _ c.attributes)) in
       λ n. record { class = c.class n; ends = x n; attributes = k n; extras = c.extras n }
 

@@ -8,6 +8,7 @@ use Rattle.std.proofs.lemmas.Cmp.{alike_right, upto}
 use Rattle.std.proofs.lemmas.List.{drop_more, get_or_default, get_or_read}
 use Rattle.std.proofs.lemmas.List.Sorted.{ranks_by, sorted_far}
 use Rattle.std.proofs.lemmas.List.Sums.{prefix_len-drop_all, prefix_len-drop_no, prefix_len-drop_yes}
+use Rattle.edi_line.proofs.Truths.{equal_is, less_is}
 use Rattle.edi_plan.specs.Plans.{PlanData}
 use Rattle.edi_matching.specs.declared.ranked.Member.{Member}
 use Rattle.edi_matching.specs.inner.Additions.{AddsPairs, AreAlike, AreFree, AreInOrder, AreLone, HasKey, HaveLoneKey, IsFirstFrom, IsLone, LeavesNoLone, PairsByKey, PairsIfAlike, StartsRun}
@@ -15,16 +16,6 @@ use Rattle.edi_matching.proofs.KeysAdded.{Shared, has_it}
 use Rattle.edi_matching.proofs.PairsAdded.{adds_if_alike, adds_none, not_left, on_both}
 
 -- orders
-
-pub less_is : (o : Ordering) → is_lt o ≡ true → o ≡ Less
-less_is Less e = refl
-less_is Equal e = absurd (true≢false (sym e))
-less_is Greater e = absurd (true≢false (sym e))
-
-tied_is : (o : Ordering) → is_eq o ≡ true → o ≡ Equal
-tied_is Less e = absurd (true≢false (sym e))
-tied_is Equal e = refl
-tied_is Greater e = absurd (true≢false (sym e))
 
 reversed : (o : Ordering) → is_lt o ≡ false → is_gt (ordering_reverse o) ≡ false
 reversed Less e = absurd (true≢false e)
@@ -71,7 +62,7 @@ module _ {K : Type 0} (cmp : K → K → Ordering) (eq : K → K → Bool) (tota
   lone_found others order from at lone key d passed first within alone same = go (cases_lt lone at) (cases_lt at lone)
     where
       tied : cmp (get_or others lone d).0 key ≡ Equal
-      tied = tied_is (cmp (get_or others lone d).0 key) (sym (ties (get_or others lone d).0 key) ∙ same)
+      tied = equal_is (cmp (get_or others lone d).0 key) (sym (ties (get_or others lone d).0 key) ∙ same)
 
       not_before : is_lt (cmp (get_or others lone d).0 key) ≡ true → ⊥
       not_before less = let e : Less ≡ Equal = sym (less_is (cmp (get_or others lone d).0 key) less) ∙ tied in cc
@@ -230,11 +221,6 @@ module _ {K : Type 0} (eq : K → K → Bool) (laws : IsEquivalence eq) (entries
       ap (λ n. take n (drop at entries)) one_first ∙ (ap (take 1) (drop_more entries at y within) ∙ ap (λ (x : K × Member). x ∷ []) (sym is))
 
 -- entries in the order of their keys, and then of what else they hold, are in the order of their keys
-
-first_not_less : (a b : Ordering) → is_lt (ordering_then a b) ≡ false → is_lt a ≡ false
-first_not_less Less b e = e
-first_not_less Equal b e = refl
-first_not_less Greater b e = refl
 
 pub keys_in_order : {K X : Type 0} (cmp : K → K → Ordering) (other : X → X → Ordering) (entries : List (K × X)) → IsSorted (λ x y. ordering_then (cmp x.0 y.0) (other x.1 y.1)) entries → AreInOrder cmp entries
 keys_in_order cmp other entries sorted k d low high =

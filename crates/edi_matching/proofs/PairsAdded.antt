@@ -1,5 +1,5 @@
 -- Pairs that are added to a matching one after the other.
-use Rattle.std.proofs.Common.{◌≡◌, ℕ, ◌<◌, ◌≤◌, ◌⊎◌, inl, inr, Bool, true, false, true≢false, List, Option, None, Some, length, get_or, set, refl, sym, ap, ◌∙◌, subst, take, ◌++◌, Result, Ok, Err, IfOk, OnOk}
+use Rattle.std.proofs.Common.{◌≡◌, ℕ, ◌<◌, ◌≤◌, ◌⊎◌, inl, inr, Bool, true, false, true≢false, List, Option, None, Some, length, get_or, set, refl, sym, ap, ◌∙◌, subst, take, ◌++◌, Result, Ok, Err, OnOk}
 use Rattle.std.proofs.lemmas.Bool.{cases_eq, cases_lt}
 use Rattle.std.proofs.lemmas.List.{get_or-set_other, get_or-set_same, get_or_past, length-set, take_at}
 use Rattle.edi_plan.specs.Plans.{PlanData}
@@ -193,11 +193,6 @@ not_left p q i j to taken more marks (inl pairs) alike free =
     let went : get_or more i None ≡ Some j = ap (λ (ts : List (Option ℕ)). get_or ts i None) pairs.1.goes ∙ get_or-set_same to i (Some j) None pairs.1.free.here in
     let wrong : None ≡ Some j = sym free.left ∙ went in cc
 
--- where there was memory for it
-pub on_ok : {X E : Type 0} (r : Result X E) (P Q : Type 0) → (P → Q) → OnOk r P → OnOk r Q
-on_ok (Ok x) P Q f h = f h
-on_ok (Err e) P Q f h = tt
-
 pub on_both : {X E : Type 0} (r : Result X E) (P Q R : Type 0) → (P → Q → R) → OnOk r P → OnOk r Q → OnOk r R
 on_both (Ok x) P Q R f h k = f h k
 on_both (Err e) P Q R f h k = tt
@@ -212,10 +207,6 @@ grows_by Pair to taken more marks adds = record { long = adds.long; keeps = adds
 
 pub grows_then : (to more most : List (Option ℕ)) → Grows to more → Grows more most → Grows to most
 grows_then to more most one two = record { long = two.long ∙ one.long; keeps = λ i j goes. two.keeps i j (one.keeps i j goes) }
-
-pub if_ok : {X E : Type 0} (r : Result X E) (P Q : X → Type 0) → ((x : X) → P x → Q x) → IfOk r P → IfOk r Q
-if_ok (Ok x) P Q f h = f x h
-if_ok (Err e) P Q f h = tt
 
 -- a vector's elements that were written as a slice
 pub grows_kept : (n : ℕ) (more rest now : List (Option ℕ)) → now ≡ take n (more ++ rest) → length more ≡ n → Grows more now

@@ -3,6 +3,7 @@ use Rattle.std.proofs.Common.{◌≡◌, ℕ, zero, suc, ◌+◌, ◌<◌, ◌�
 use Rattle.std.specs.List.{AllByRecursion}
 use Rattle.std.proofs.lemmas.Bool.{cases_eq, cases_lt}
 use Rattle.std.proofs.lemmas.List.{get_or-set_other, get_or-set_same, length-set}
+use Rattle.edi_line.proofs.EachElement.{each_weaker}
 use Rattle.edi_record.specs.declared.record.Kind.{Kind}
 use Rattle.edi_schema.specs.Classes.{Classes}
 use Rattle.edi_plan.specs.Plans.{IsPlace, first_of, others_of, record_at, rest_of}
@@ -10,7 +11,6 @@ use Rattle.edi_plan.specs.declared.record.PlanEnd.{PlanEnd}
 use Rattle.edi_plan.specs.declared.record.PlanRecord.{PlanRecord}
 use Rattle.edi_rank.specs.Labelling.{turned_at}
 use Rattle.edi_rank.specs.Same.{CarriesRecord, moved}
-use Rattle.edi_rank.proofs.KeysPreserved.{all_weaker}
 use Rattle.edi_rank.proofs.SameLaws.{map_alike}
 use Rattle.edi_matching.specs.Differences.{IsReached}
 use Rattle.edi_matching.specs.Matchings.{GoesTo, IsMatched, MatchingHolds, targets_of}
@@ -60,14 +60,14 @@ pub carried_later : (s : Classes) (before after : List (Option ℕ)) → ((k l :
     → AllByRecursion (λ e. IsMatched before e.target) a.ends → CarriesRecord s (slice_index (targets_of before)) turned i a b → CarriesRecord s (slice_index (targets_of after)) turned i a b
 carried_later s before after keeps turned i a b ends c =
     carried_alike s (slice_index (targets_of before)) (slice_index (targets_of after)) turned i a b
-    (all_weaker (λ (e : PlanEnd). IsMatched before e.target) (λ (e : PlanEnd). slice_index (targets_of before) e.target ≡ slice_index (targets_of after) e.target)
+    (each_weaker (λ (e : PlanEnd). IsMatched before e.target) (λ (e : PlanEnd). slice_index (targets_of before) e.target ≡ slice_index (targets_of after) e.target)
     (λ e goes. targets_stay before after keeps e.target goes) a.ends ends) c
 
 pub carried_before : (s : Classes) (before after : List (Option ℕ)) → ((k l : ℕ) → GoesTo before k l → GoesTo after k l) → (turned : ℕ → Bool) (i : ℕ) (a b : PlanRecord)
     → AllByRecursion (λ e. IsMatched before e.target) a.ends → CarriesRecord s (slice_index (targets_of after)) turned i a b → CarriesRecord s (slice_index (targets_of before)) turned i a b
 carried_before s before after keeps turned i a b ends c =
     carried_alike s (slice_index (targets_of after)) (slice_index (targets_of before)) turned i a b
-    (all_weaker (λ (e : PlanEnd). IsMatched before e.target) (λ (e : PlanEnd). slice_index (targets_of after) e.target ≡ slice_index (targets_of before) e.target)
+    (each_weaker (λ (e : PlanEnd). IsMatched before e.target) (λ (e : PlanEnd). slice_index (targets_of after) e.target ≡ slice_index (targets_of before) e.target)
     (λ e goes. sym (targets_stay before after keeps e.target goes)) a.ends ends) c
 
 pub last_or : (k n : ℕ) → k < n + 1 → (k < n) ⊎ (k ≡ n)
@@ -131,7 +131,7 @@ module _ (kind : Kind) (m : Proposal) (before : List Bool) (to : List (Option �
 
   -- its ends went before
   ends_before : AllByRecursion (λ e. IsMatched to e.target) (record_at m.plan i).ends
-  ends_before = all_weaker (λ (e : PlanEnd). IsMatched m.to e.target) (λ (e : PlanEnd). IsMatched to e.target) (λ e goes. (goes.0, are.adds.keeps e.target goes.0 goes.1)) (record_at m.plan i).ends missed.ends
+  ends_before = each_weaker (λ (e : PlanEnd). IsMatched m.to e.target) (λ (e : PlanEnd). IsMatched to e.target) (λ e goes. (goes.0, are.adds.keeps e.target goes.0 goes.1)) (record_at m.plan i).ends missed.ends
 
   pub matched_after : (k : ℕ) → IsMatched to k → IsMatched after k
   matched_after k goes = (goes.0, went_before k goes.0 goes.1)
@@ -171,7 +171,7 @@ module _ (kind : Kind) (m : Proposal) (before : List Bool) (to : List (Option �
     within = λ k l goes. within_after k l (went_after k l goes);
     apart = λ k n l a b. apart_after k n l (went_after k l a) (went_after n l b);
     arcs = λ k place e. let w = are.holds.arcs k place e in (matched_after k w.0, w.1);
-    ends = λ k l goes. all_weaker (λ (e : PlanEnd). IsMatched to e.target) (λ (e : PlanEnd). IsMatched after e.target) (λ e went. matched_after e.target went) (record_at m.plan k).ends
+    ends = λ k l goes. each_weaker (λ (e : PlanEnd). IsMatched to e.target) (λ (e : PlanEnd). IsMatched after e.target) (λ e went. matched_after e.target went) (record_at m.plan k).ends
         (ends_after k l (went_after k l goes));
     each = λ k l goes. each_after k l (went_after k l goes);
   }

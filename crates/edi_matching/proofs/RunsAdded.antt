@@ -2,7 +2,7 @@
 use Rattle.std.proofs.Common.{◌≡◌, inl, inr, ℕ, zero, suc, ◌+◌, ◌-◌, ◌<◌, ◌≤◌, Bool, true, false, not, cond, ltb, List, [], ◌∷◌, Option, None, Some, Contains, drop, take, length, get_or, refl, sym, ap, ◌∙◌, arith}
 use Rattle.std.specs.Cmp.{IsEquivalence}
 use Rattle.std.specs.List.{before_first, position_or_len}
-use Rattle.std.proofs.lemmas.Bool.{ltb-false, not-false}
+use Rattle.std.proofs.lemmas.Bool.{ltb-false, not-false, false_from_ne_true}
 use Rattle.std.proofs.lemmas.List.{get_or-drop, get_or-take, length-drop, length-take, take_all}
 use Rattle.std.proofs.lemmas.List.Sums.{fails_before_first}
 use Rattle.edi_plan.specs.Plans.{PlanData}
@@ -54,10 +54,6 @@ only_one xs one x (suc n) alone within is = absurd (let long = ap length alone i
 
 -- ---- where runs start
 
-refuted : (b : Bool) → ¬ (b ≡ true) → b ≡ false
-refuted true h = absurd (h refl)
-refuted false h = refl
-
 not_both : (b : Bool) → not b ≡ true → b ≡ true → ⊥
 not_both true h k = cc
 not_both false h k = cc
@@ -81,7 +77,7 @@ module _ {K : Type 0} (eq : K → K → Bool) (entries : List (K × Member)) (at
   pub starts_by : (b : Bool) → (b ≡ true → HasKey eq entries (at - 1) x.0) × (HasKey eq entries (at - 1) x.0 → b ≡ true)
       → (not b ≡ true → StartsRun eq entries at) × (StartsRun eq entries at → not b ≡ true)
   starts_by b has = (
-    λ other. inr (λ d. refuted (eq (get_or entries (at - 1) d).0 (get_or entries at d).0) (λ h. not_both b other (has.1 (has_key d h)))),
+    λ other. inr (λ d. false_from_ne_true (eq (get_or entries (at - 1) d).0 (get_or entries at d).0) (λ h. not_both b other (has.1 (has_key d h)))),
     λ starts. not_one b (λ h. apart (has.0 h) starts),
   )
     where

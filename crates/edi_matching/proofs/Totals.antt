@@ -1,13 +1,13 @@
 -- A matching that holds and is total is a pairing that carries, and the other way round.
 use Rattle.std.proofs.Common.{◌≡◌, ℕ, zero, suc, ◌<◌, List, [], ◌∷◌, map, map-id, length, slice_index, unwrap_or, Option, None, Some, sym, ap, ◌∙◌, subst, arith}
 use Rattle.std.proofs.lemmas.List.{get_or-map, length-map}
+use Rattle.edi_line.proofs.EachElement.{each_weaker}
 use Rattle.edi_schema.specs.Classes.{Classes}
 use Rattle.edi_plan.specs.Plans.{PlanData, IsPlace, record_at}
 use Rattle.edi_plan.specs.Whole.{IsWholePlan}
 use Rattle.edi_plan.specs.declared.record.PlanEnd.{PlanEnd}
 use Rattle.edi_rank.specs.Labelling.{turned_at}
 use Rattle.edi_rank.specs.Same.{CarriesRecord}
-use Rattle.edi_rank.proofs.KeysPreserved.{all_weaker}
 use Rattle.edi_rank.proofs.SameLaws.{map-map}
 use Rattle.edi_compare.specs.Pairings.{PairingCarries}
 use Rattle.edi_compare.specs.declared.pairing.Pairing.{Pairing}
@@ -90,7 +90,7 @@ module _ (s : Classes) (p q : PlanData) (pairing : Pairing) (whole : IsWholePlan
     within = λ i j e. subst (IsPlace q) (is_there i j e) (c.carries.places.within i (place i j e));
     apart = λ i k j e f. c.carries.places.apart i k (place i j e) (place k j f) (is_there i j e ∙ sym (is_there k j f));
     arcs = λ i h e. (matched i h, c.carries.arcs i h e);
-    ends = λ i j e. all_weaker (λ (x : PlanEnd). IsPlace p x.target) (λ (x : PlanEnd). IsMatched to x.target) (λ x h. matched x.target h) (record_at p i).ends (whole.there i (place i j e));
+    ends = λ i j e. each_weaker (λ (x : PlanEnd). IsPlace p x.target) (λ (x : PlanEnd). IsMatched to x.target) (λ x h. matched x.target h) (record_at p i).ends (whole.there i (place i j e));
     each = λ i j e. subst (λ k. CarriesRecord s (slice_index (targets_of to)) (turned_at pairing.turned) i (record_at p i) (record_at q k)) (is_there i j e)
         (subst (λ (ys : List ℕ). CarriesRecord s (slice_index ys) (turned_at pairing.turned) i (record_at p i) (record_at q (slice_index pairing.to i))) (sym (targets_back pairing.to)) (c.carries.each i (place i j e)));
   }

@@ -11,13 +11,13 @@ ghost use Rattle.edi_matching.specs.Differences.{ArePartners, MatchesPartners};
 ghost use Rattle.edi_matching.specs.Matchings.{MatchingHolds};
 ghost use Rattle.edi_matching.specs.inner.Partners.{GoesToPartner, IsDirectionIfAny, IsMemberIfAny, IsOnlyAt, IsPartnerIfAny, IsSameIfAny, keyed_arcs, keyed_nodes};
 
-use crate::keys::{member_with, members_by_key};
+use crate::keys::member_with;
 use crate::matching::Matching;
 use edi_compare::contents::{same_attributes, same_extras, same_points};
 use edi_line::Sequence;
 use edi_plan::Plan;
 use edi_record::{Kind, Point};
-use edi_topo::{ArcLayer, ForwardPoints, NodeKey, NodeLayer, Sound, node_key_at};
+use edi_topo::{ArcLayer, ForwardPoints, NodeKey, NodeLayer, Sound, members_by_key, node_key_at};
 use std::alloc::{AllocError, Global};
 use std::cmp::Ordering;
 use std::marker::Model;

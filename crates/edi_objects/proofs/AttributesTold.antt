@@ -1,5 +1,5 @@
 -- Attributes that are others have a line.
-use Rattle.std.proofs.Common.{◌≡◌, ◌≢◌, ◌∙◌, ◌-◌, ◌<◌, ◌≤◌, ◌⊎◌, ◌++◌, ℕ, zero, suc, Bool, true, false, cond, List, [], ◌∷◌, Ordering, Less, Equal, Greater, IsPermutation, ap, ap₂, arith, codes, eq-eqb, eqb, eqb-true, filter, get_or, if◌then◌else◌, inl, inr, is_eq, is_gt, length, map, nat_cmp, ne_eqb, refl, subst, sym, true≢false}
+use Rattle.std.proofs.Common.{◌≡◌, ◌≢◌, ◌∙◌, ◌-◌, ◌<◌, ◌≤◌, ◌⊎◌, ◌++◌, ℕ, zero, suc, Bool, true, false, cond, List, [], ◌∷◌, IsPermutation, ap, ap₂, arith, codes, eq-eqb, eqb, eqb-true, filter, get_or, if◌then◌else◌, inl, inr, is_gt, length, map, nat_cmp, ne_eqb, refl, subst, sym, true≢false}
 use Rattle.std.specs.Cmp.Lexicographic.{slice_cmp}
 use Rattle.std.specs.List.{AllByRecursion, list_any, range_with_len}
 use Rattle.std.specs.Ordering.{ordering_then}
@@ -10,6 +10,8 @@ use Rattle.std.proofs.lemmas.List.FromFn.{get_or-range_with_len, length-range_wi
 use Rattle.std.proofs.lemmas.List.Sorted.{list_any-IsPermutation}
 use Rattle.std.proofs.lemmas.Map.Keys.{le_from_not_gt}
 use Rattle.edi_line.specs.Bytes.{line_feed}
+use Rattle.edi_line.proofs.Truths.{equal_is, first_not_greater}
+use Rattle.edi_line.proofs.EachElement.{each_from_places, each_in_any_order, each_weaker}
 use Rattle.edi_record.specs.Orders.{text_cmp, value_cmp}
 use Rattle.edi_schema.specs.Classes.{Classes}
 use Rattle.edi_schema.specs.Sorted.{NeverFalls, sort_by}
@@ -17,14 +19,10 @@ use Rattle.edi_schema.proofs.SortedLists.{IsPermutation-sort_by, NeverFalls-sort
 use Rattle.edi_plan.specs.Orders.{attribute_cmp}
 use Rattle.edi_plan.specs.declared.record.PlanAttribute.{PlanAttribute}
 use Rattle.edi_plan.proofs.Orders.{attribute_exact, attribute_total, exact_lists}
-use Rattle.edi_rank.proofs.ArrangedUnder.{all_along}
 use Rattle.edi_compare.proofs.Equal.{permuted}
 use Rattle.edi_objects.specs.Attributes.{are_alike, attribute_line, attribute_lines, class_line_at, classes_of_both, is_repeated, of_class, shown_values}
 use Rattle.edi_objects.specs.Names.{shown_class}
 use Rattle.edi_objects.proofs.AttributeLists.{one_of_all}
-use Rattle.edi_objects.proofs.LinkEntries.{all_by_places}
-use Rattle.edi_rank.proofs.KeysPreserved.{all_weaker}
-use Rattle.edi_objects.proofs.Runs.{first_at_most}
 use Rattle.edi_objects.proofs.TextLines.{none_each}
 
 -- ---- attributes in order, class by class
@@ -48,8 +46,8 @@ Rises xs = NeverFalls attribute_cmp xs
 
 later_classes : (c : ℕ) (x : PlanAttribute) (xs : List PlanAttribute) → c < x.atp → Rises (x ∷ xs) → of_class c (x ∷ xs) ≡ []
 later_classes c x xs less up = other_class c x xs (λ e. omega (arith, e, less)) ∙ none_of_class c xs
-    (all_weaker (λ y. is_gt (attribute_cmp x y) ≡ false) (λ y. c < y.atp)
-    (λ y low. let least : x.atp ≤ y.atp = le_from_not_gt x.atp y.atp (first_at_most (nat_cmp x.atp y.atp) (ordering_then (text_cmp x.tex y.tex) (value_cmp x.value y.value)) low) in omega (arith, least, less)) xs up.0)
+    (each_weaker (λ y. is_gt (attribute_cmp x y) ≡ false) (λ y. c < y.atp)
+    (λ y low. let least : x.atp ≤ y.atp = le_from_not_gt x.atp y.atp (first_not_greater (nat_cmp x.atp y.atp) (ordering_then (text_cmp x.tex y.tex) (value_cmp x.value y.value)) low) in omega (arith, least, less)) xs up.0)
 
 tail_same : (c : ℕ) (x y : PlanAttribute) (xs ys : List PlanAttribute) → x ≡ y → of_class c (x ∷ xs) ≡ of_class c (y ∷ ys) → of_class c xs ≡ of_class c ys
 tail_same c x y xs ys one same = go (cases_eq x.atp c)
@@ -95,14 +93,9 @@ not_repeated : (b : Bool) (line : List ℕ) → b ≡ false → (if b then [] el
 not_repeated true line e none = absurd (true≢false e)
 not_repeated false line e none = none
 
-is_tied : (o : Ordering) → is_eq o ≡ true → o ≡ Equal
-is_tied Less e = absurd (true≢false (sym e))
-is_tied Equal e = refl
-is_tied Greater e = absurd (true≢false (sym e))
-
 line_alike : (s : Classes) (xs ys : List PlanAttribute) (c : ℕ) → attribute_line s xs ys c ≡ [] → AreAlike xs ys c
 line_alike s xs ys c none = exact_lists attribute_cmp attribute_exact (of_class c xs) (of_class c ys)
-    (is_tied (slice_cmp attribute_cmp (of_class c xs) (of_class c ys))
+    (equal_is (slice_cmp attribute_cmp (of_class c xs) (of_class c ys))
     (unless_none (are_alike (of_class c xs) (of_class c ys))
     (codes "    " ++ shown_class s c ++ codes ":" ++ shown_values (of_class c xs) ++ codes " ->" ++ shown_values (of_class c ys) ++ line_feed ∷ []) (λ e. cc) none))
 
@@ -163,8 +156,8 @@ module _ (s : Classes) (here there : List PlanAttribute) (none : attribute_lines
       (subst (λ (m : ℕ). class_line_at s (sort_by attribute_cmp here) (sort_by attribute_cmp there) (classes_of_both here there) m ≡ []) at one))
 
   all_alike : AllByRecursion (AreAlike xs ys) (map (λ (a : PlanAttribute). a.atp) both)
-  all_alike = all_along (AreAlike xs ys) classes (map (λ (a : PlanAttribute). a.atp) (here ++ there)) (IsPermutation-sort_by nat_cmp nat_cmp_total (map (λ (a : PlanAttribute). a.atp) (here ++ there)))
-      (all_by_places (AreAlike xs ys) classes 0 (first_of_run (AreAlike xs ys) classes unrepeated))
+  all_alike = each_in_any_order (AreAlike xs ys) classes (map (λ (a : PlanAttribute). a.atp) (here ++ there)) (IsPermutation-sort_by nat_cmp nat_cmp_total (map (λ (a : PlanAttribute). a.atp) (here ++ there)))
+      (each_from_places (AreAlike xs ys) classes 0 (first_of_run (AreAlike xs ys) classes unrepeated))
 
   none_sorted : (c : ℕ) (zs : List PlanAttribute) → list_any (λ (a : PlanAttribute). eqb a.atp c) zs ≡ false → of_class c (sort_by attribute_cmp zs) ≡ []
   none_sorted c zs e = none_kept (λ (a : PlanAttribute). eqb a.atp c) (sort_by attribute_cmp zs)

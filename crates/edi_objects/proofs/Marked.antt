@@ -7,6 +7,7 @@ use Rattle.std.proofs.lemmas.Bool.{le-ltb, ltb-false, ltb-true}
 use Rattle.std.proofs.lemmas.List.{append-nil, flat_map_more, get_or_past, get_or-map, length-map}
 use Rattle.std.proofs.lemmas.List.Folds.{list_any-append}
 use Rattle.std.proofs.lemmas.List.FromFn.{get_or-map-range_with_len, length-map-range_with_len, map-range_with_len_more}
+use Rattle.edi_line.proofs.Truths.{or_assoc}
 use Rattle.edi_report.specs.Lines.{is_reached, went_to}
 use Rattle.edi_report.specs.Reports.{Report}
 use Rattle.edi_report.specs.Tables.{AreMarks}
@@ -20,10 +21,6 @@ use Rattle.edi_objects.specs.inner.Sheets.{AreNotes, AreTested, is_marked_place}
 -- one number more
 range_more : (k : ℕ) → range_with_len 0 (k + 1) ≡ range_with_len 0 k ++ k ∷ []
 range_more k = sym (map-id (range_with_len 0 (k + 1))) ∙ (map-range_with_len_more (λ (i : ℕ). i) 0 k k (omega arith) ∙ ap (λ (xs : List ℕ). xs ++ k ∷ []) (map-id (range_with_len 0 k)))
-
-or_assoc : (a b c : Bool) → ((a || b) || c) ≡ (a || (b || c))
-or_assoc true b c = refl
-or_assoc false b c = refl
 
 -- one record more that may have moved
 pub onto_more : (r : Report) (k j : ℕ) (old marks new : List Bool) (went : Option ℕ) → get_or marks j false ≡ (get_or old j false || is_moved_onto r k j) → went ≡ moved_to r k

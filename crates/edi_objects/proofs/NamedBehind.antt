@@ -2,11 +2,11 @@
 use Rattle.std.proofs.Common.{◌≡◌, ◌∙◌, ◌<◌, ◌||◌, ℕ, zero, suc, Bool, false, List, [], ◌∷◌, IfOk, Ok, Err, Result, ap, ap₂, arith, drop, get_or, length, map, refl, subst}
 use Rattle.std.specs.List.{AllByRecursion, list_any, range_with_len}
 use Rattle.std.proofs.lemmas.List.FromFn.{get_or-map-range_with_len}
+use Rattle.edi_line.proofs.EachElement.{each_weaker}
 use Rattle.edi_plan.specs.Plans.{PlanData, IsPlace, record_at}
 use Rattle.edi_plan.specs.Sides.{targets}
 use Rattle.edi_plan.specs.Whole.{IsWholePlan}
 use Rattle.edi_plan.specs.declared.record.PlanEnd.{PlanEnd}
-use Rattle.edi_rank.proofs.KeysPreserved.{all_weaker}
 use Rattle.edi_report.specs.Reports.{Report}
 use Rattle.edi_objects.specs.Elements.{most_named}
 use Rattle.edi_objects.specs.Objects.{has_further_outline, has_other_outline}
@@ -33,7 +33,7 @@ further_known r whole others further are is i h =
     noted (names_further (is_marked_place others) r.first.accepted) (length r.first.accepted.list) further is i h
     ∙ any_alike (is_marked_place others) (has_other_outline r) (drop most_named (targets (record_at r.first.accepted i)))
     (all_dropped (λ (x : ℕ). is_marked_place others x ≡ has_other_outline r x) most_named (targets (record_at r.first.accepted i))
-    (all_weaker (IsPlace r.first.accepted) (λ (x : ℕ). is_marked_place others x ≡ has_other_outline r x) are (targets (record_at r.first.accepted i))
+    (each_weaker (IsPlace r.first.accepted) (λ (x : ℕ). is_marked_place others x ≡ has_other_outline r x) are (targets (record_at r.first.accepted i))
     (all_mapped (λ (e : PlanEnd). e.target) (IsPlace r.first.accepted) (record_at r.first.accepted i).ends (whole.there i h))))
 
 pub further_found : {X E : Type 0} (r : Report) (p : PlanData) (others : List Bool) (found : Result X E) (items : X → List Bool) → p ≡ r.first.accepted → IsWholePlan p → AreOthers r others

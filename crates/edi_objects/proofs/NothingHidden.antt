@@ -2,8 +2,9 @@
 use Rattle.std.proofs.Common.{◌≡◌, ◌≢◌, ◌∙◌, ◌<◌, ◌≤◌, ◌+◌, ◌-◌, ◌⊎◌, ◌++◌, ◌&&◌, ◌||◌, ℕ, zero, suc, Bool, true, false, List, [], ◌∷◌, Option, Some, None, ap, ap₂, arith, codes, drop, eqb-true, get_or, if◌then◌else◌, inl, inr, IsPermutation, length, length-drop, length-take, lt-ltb, ltb-true, not, refl, subst, sym, take, true≢false}
 use Rattle.std.specs.List.{AllByRecursion, flat_map, list_any, range_with_len}
 use Rattle.std.proofs.lemmas.Bool.{and_from, and_parts, cases_Bool, cases_lt, false_from_ne_true, or_cases, or_from, or_parts}
-use Rattle.std.proofs.lemmas.List.{get_or-drop, get_or-take}
+use Rattle.std.proofs.lemmas.List.{get_or-drop, get_or-take, nil_from_length}
 use Rattle.edi_line.specs.Bytes.{line_feed}
+use Rattle.edi_line.proofs.EachElement.{each_from_places}
 use Rattle.edi_record.specs.Records.{is_link}
 use Rattle.edi_record.specs.Shapes.{may_have_ends, may_have_points}
 use Rattle.edi_record.specs.declared.record.Kind.{Kind}
@@ -26,22 +27,18 @@ use Rattle.edi_objects.specs.Telling.{AreSoundParts, DiffersByLinksAlone, FirstH
 use Rattle.edi_objects.proofs.AttributeLists.{all_mapped, one_of_all}
 use Rattle.edi_objects.proofs.AttributesTold.{unsaid_same}
 use Rattle.edi_objects.proofs.NamedBehind.{all_dropped}
-use Rattle.edi_objects.proofs.LinkEntries.{all_by_places, all_links, each_link}
+use Rattle.edi_objects.proofs.LinkEntries.{all_links, each_link}
 use Rattle.edi_objects.proofs.TextLines.{both_none, if_said, none_each, none_from}
 use Rattle.edi_objects.proofs.ToldLines.{bare_said, block_said, differing_said, element_said, first_stands, lone_said, new_bare_said, new_said, object_said, second_link_said, second_stands, told_by_first, told_by_second}
 
 -- ---- records
 
-empty : {X : Type 0} (xs : List X) → length xs ≡ 0 → xs ≡ []
-empty [] e = refl
-empty (x ∷ xs) e = absurd (omega (arith, e))
-
 no_points : (p : PlanData) → IsWholePlan p → (k : ℕ) → IsPlace p k → (record_at p k).kind ≡ Fea → (record_at p k).points ≡ []
-no_points p whole k there is = empty _ (eqb-true (length (record_at p k).points) 0 (ap (λ (kind : Kind). may_have_points kind (length (record_at p k).points)) (sym is) ∙ whole.points k there))
+no_points p whole k there is = nil_from_length _ (eqb-true (length (record_at p k).points) 0 (ap (λ (kind : Kind). may_have_points kind (length (record_at p k).points)) (sym is) ∙ whole.points k there))
 
 -- a record that is no link names none
 no_ends : (p : PlanData) → IsWholePlan p → (k : ℕ) → IsPlace p k → (kind : Kind) → (record_at p k).kind ≡ kind → is_link kind ≡ false → (record_at p k).ends ≡ []
-no_ends p whole k there kind is none = empty _ (go kind none (ap (λ (x : Kind). may_have_ends x (length (record_at p k).ends)) (sym is) ∙ whole.ends k there))
+no_ends p whole k there kind is none = nil_from_length _ (go kind none (ap (λ (x : Kind). may_have_ends x (length (record_at p k).ends)) (sym is) ∙ whole.ends k there))
   where
     go : (x : Kind) → is_link x ≡ false → may_have_ends x (length (record_at p k).ends) ≡ true → length (record_at p k).ends ≡ 0
     go Pno e h = eqb-true (length (record_at p k).ends) 0 h
@@ -443,7 +440,7 @@ module _ (n : Naming) (r : Report) (sound : IsSoundReport r) where
 
       few_quiet : (link : ℕ) → IsLinkOf here i link → flat_map (outline_line n r) (take most_named (targets (record_at here link))) ≡ []
       few_quiet link names = none_from (outline_line n r) (take most_named (targets (record_at here link)))
-          (all_by_places (λ (x : ℕ). outline_line n r x ≡ []) (take most_named (targets (record_at here link))) 0 (λ k h.
+          (each_from_places (λ (x : ℕ). outline_line n r x ≡ []) (take most_named (targets (record_at here link))) 0 (λ k h.
           let few : k < most_named = omega (arith, h, length-take most_named (targets (record_at here link))) in
           let within : k < length (targets (record_at here link)) = omega (arith, h, length-take most_named (targets (record_at here link))) in
           ap (λ (b : Bool). if b then outline_text n r (get_or (take most_named (targets (record_at here link))) k 0) else [])
@@ -453,7 +450,7 @@ module _ (n : Naming) (r : Report) (sound : IsSoundReport r) where
       further_quiet link names = further_none link
           (any_none (has_other_outline r) (drop most_named (targets (record_at here link)))
           (all_dropped (λ (x : ℕ). has_other_outline r x ≡ false) most_named (targets (record_at here link))
-          (all_by_places (λ (x : ℕ). has_other_outline r x ≡ false) (targets (record_at here link)) 0 (quiet link names))))
+          (each_from_places (λ (x : ℕ). has_other_outline r x ≡ false) (targets (record_at here link)) 0 (quiet link names))))
 
       link_quiet : (link : ℕ) → IsLinkOf here i link → first_link n r i link ≡ []
       link_quiet link names =

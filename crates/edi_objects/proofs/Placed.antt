@@ -1,20 +1,19 @@
 -- Places of records.
-use Rattle.std.proofs.Common.{◌≡◌, ◌∙◌, ◌<◌, ℕ, zero, suc, Bool, true, false, cond, List, [], ◌∷◌, ap, arith, eqb, filter, get_or, length, map, subst, take}
+use Rattle.std.proofs.Common.{◌≡◌, ◌∙◌, ◌<◌, ℕ, Bool, true, false, cond, List, [], ◌∷◌, ap, eqb, filter, get_or, length, map, subst, take}
 use Rattle.edi_plan.specs.Plans.{PlanData, IsPlace, record_at}
 use Rattle.edi_plan.specs.Sides.{targets}
 use Rattle.edi_plan.specs.Whole.{IsWholePlan}
 use Rattle.edi_plan.specs.declared.record.PlanEnd.{PlanEnd}
-use Rattle.std.specs.List.{AllByRecursion, flat_map}
+use Rattle.std.specs.List.{AllByRecursion}
 use Rattle.std.proofs.lemmas.List.Sorted.{IsPermutation-sym}
+use Rattle.edi_line.proofs.EachElement.{each_from_places, each_joined, each_in_any_order, each_weaker}
 use Rattle.edi_record.specs.declared.record.Kind.TheVariants.{Lnk}
 use Rattle.edi_plan.specs.Places.{places_of}
 use Rattle.edi_plan.proofs.PlaceLemmas.{place_there}
-use Rattle.edi_rank.proofs.ArrangedUnder.{all_along}
-use Rattle.edi_rank.proofs.KeysPreserved.{all_weaker}
 use Rattle.edi_schema.proofs.SortedLists.{IsPermutation-sort_by}
 use Rattle.edi_objects.specs.LinksOf.{entries_of, index_of, naming_cmp, named_by}
 use Rattle.edi_objects.specs.inner.Indices.{all_named}
-use Rattle.edi_objects.proofs.AttributeLists.{all_appended, one_of_all, one_of_few}
+use Rattle.edi_objects.proofs.AttributeLists.{one_of_all, one_of_few}
 use Rattle.edi_objects.proofs.Indexed.{naming_total}
 
 -- one of the first few ends of a link is a record
@@ -24,15 +23,6 @@ end_there p whole link there ends few n k e are is within at =
     let same : few ≡ take n (record_at p link).ends = is ∙ ap (take n) are in
     one_of_few (λ (x : PlanEnd). IsPlace p x.target) (record_at p link).ends (whole.there link there) n k e
     (subst (λ (xs : List PlanEnd). k < length xs) same within) (at ∙ ap (λ (xs : List PlanEnd). get_or xs k e) same)
-
--- what holds of each place of a list holds of all
-all_places : (P : ℕ → Type 0) (xs : List ℕ) → ((k : ℕ) → k < length xs → P (get_or xs k 0)) → AllByRecursion P xs
-all_places P [] each = tt
-all_places P (x ∷ xs) each = (each zero (omega arith), all_places P xs (λ k h. each (suc k) (omega (arith, h))))
-
-pub all_joined : {X Y : Type 0} (P : Y → Type 0) (f : X → List Y) (xs : List X) → AllByRecursion (λ x. AllByRecursion P (f x)) xs → AllByRecursion P (flat_map f xs)
-all_joined P f [] all = tt
-all_joined P f (x ∷ xs) all = all_appended P (f x) (flat_map f xs) all.0 (all_joined P f xs all.1)
 
 all_kept : {X : Type 0} (P : X → Type 0) (p : X → Bool) (xs : List X) → AllByRecursion P xs → AllByRecursion P (filter p xs)
 all_kept P p [] all = tt
@@ -51,11 +41,11 @@ module _ (p : PlanData) where
   named_there link there (x ∷ xs) = (there, named_there link there xs)
 
   all_there : AllByRecursion IsLinkThere (all_named p)
-  all_there = all_joined IsLinkThere (named_by p) (places_of Lnk p)
-      (all_weaker (IsPlace p) (λ link. AllByRecursion IsLinkThere (named_by p link)) (λ link there. named_there link there (targets (record_at p link))) (places_of Lnk p) (all_places (IsPlace p) (places_of Lnk p) (place_there Lnk p)))
+  all_there = each_joined IsLinkThere (named_by p) (places_of Lnk p)
+      (each_weaker (IsPlace p) (λ link. AllByRecursion IsLinkThere (named_by p link)) (λ link there. named_there link there (targets (record_at p link))) (places_of Lnk p) (each_from_places (IsPlace p) (places_of Lnk p) 0 (place_there Lnk p)))
 
   index_there : AllByRecursion IsLinkThere (index_of p)
-  index_there = unfold index_of in all_along IsLinkThere (all_named p) (index_of p) (IsPermutation-sym _ _ (IsPermutation-sort_by naming_cmp naming_total (all_named p))) all_there
+  index_there = unfold index_of in each_in_any_order IsLinkThere (all_named p) (index_of p) (IsPermutation-sym _ _ (IsPermutation-sort_by naming_cmp naming_total (all_named p))) all_there
 
   -- the links of a record are records
   pub link_there : (place k : ℕ) (d : ℕ × ℕ) → k < length (entries_of (index_of p) place) → IsPlace p (get_or (entries_of (index_of p) place) k d).1

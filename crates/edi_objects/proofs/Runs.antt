@@ -1,8 +1,8 @@
 -- Elements with one key, in a list in which the keys never fall.
-use Rattle.std.proofs.Common.{◌≡◌, ◌∙◌, ℕ, zero, suc, ◌+◌, ◌<◌, ◌≤◌, Bool, true, false, cond, List, [], ◌∷◌, length, map, take, drop, get_or, filter, refl, ap, arith, eqb, ltb, leb, sym, true≢false, Ordering, Less, Equal, Greater}
+use Rattle.std.proofs.Common.{◌≡◌, ◌∙◌, ℕ, zero, suc, ◌+◌, ◌<◌, ◌≤◌, Bool, true, false, cond, List, [], ◌∷◌, length, map, take, drop, get_or, filter, refl, ap, arith, eqb, ltb, leb, sym, true≢false, Ordering}
 use Rattle.std.specs.List.{AllByRecursion}
 use Rattle.std.specs.List.Sorted.{IsNonDecreasingBy}
-use Rattle.std.specs.Ordering.{is_gt, ordering_then}
+use Rattle.std.specs.Ordering.{is_gt}
 use Rattle.std.proofs.lemmas.Bool.{eq-eqb, leb-false, leb-true, ltb-false, ltb-true, ne_eqb}
 use Rattle.std.proofs.lemmas.List.{get_or-drop, length-drop}
 use Rattle.edi_schema.specs.Sorted.{NeverFalls}
@@ -61,12 +61,6 @@ filter-map f p (x ∷ xs) = both (p (f x)) ∙ ap (λ ys. cond (p (f x)) (f x �
     both : (b : Bool) → map f (cond b (x ∷ filter (λ z. p (f z)) xs) (filter (λ z. p (f z)) xs)) ≡ cond b (f x ∷ map f (filter (λ z. p (f z)) xs)) (map f (filter (λ z. p (f z)) xs))
     both true = refl
     both false = refl
-
--- of two orders one after the other, the first
-pub first_at_most : (o u : Ordering) → is_gt (ordering_then o u) ≡ false → is_gt o ≡ false
-first_at_most Less u h = refl
-first_at_most Equal u h = refl
-first_at_most Greater u h = h
 
 -- in a list that never falls a number that goes with the order never falls
 module _ {X : Type 0} (cmp : X → X → Ordering) (f : X → ℕ) (low : (x y : X) → is_gt (cmp x y) ≡ false → f x ≤ f y) where

@@ -2,9 +2,9 @@
 use Rattle.std.proofs.Common.{◌≡◌, ◌≢◌, ◌∙◌, ◌<◌, ℕ, Bool, true, false, List, [], ◌∷◌, ◌++◌, ap, ap₂, append-nil, append_assoc, get_or, if◌then◌else◌, length, refl, sym, true≢false}
 use Rattle.std.specs.List.{AllByRecursion, flat_map}
 use Rattle.edi_line.specs.Bytes.{line_feed}
+use Rattle.edi_line.proofs.EachElement.{each_weaker}
 use Rattle.edi_objects.specs.Telling.{AreLinesOf, AreWholeLines, last_byte}
 use Rattle.edi_objects.proofs.AttributeLists.{one_of_all}
-use Rattle.edi_rank.proofs.KeysPreserved.{all_weaker}
 
 -- ---- whole lines
 
@@ -96,7 +96,7 @@ pub lines_each : {X : Type 0} (f : X → List ℕ) → ((x : X) → AreWholeLine
 lines_each f whole [] = tt
 lines_each f whole (x ∷ xs) = (
   λ some. lines_left (f x) (flat_map f xs) (f x) (lines_alone (f x) some (whole x)),
-  all_weaker (λ y. f y ≢ [] → AreLinesOf (flat_map f xs) (f y)) (λ y. f y ≢ [] → AreLinesOf (f x ++ flat_map f xs) (f y))
+  each_weaker (λ y. f y ≢ [] → AreLinesOf (flat_map f xs) (f y)) (λ y. f y ≢ [] → AreLinesOf (f x ++ flat_map f xs) (f y))
       (λ y h some. lines_right (f x) (flat_map f xs) (f y) (whole x) (h some)) xs (lines_each f whole xs),
 )
 

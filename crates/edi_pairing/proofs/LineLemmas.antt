@@ -1,7 +1,8 @@
 -- One text begins with one line of a record alone.
-use Rattle.std.proofs.Common.{◌≡◌, ◌≢◌, ℕ, zero, suc, ◌+◌, ◌<◌, ◌≤◌, Bool, true, false, ◌||◌, List, [], ◌∷◌, ◌++◌, append_assoc, length, take, drop, get_or, codes, Option, Some, None, MatchOption, refl, sym, ap, ◌∙◌, subst, arith, Bor}
+use Rattle.std.proofs.Common.{◌≡◌, ◌≢◌, ℕ, zero, suc, ◌+◌, ◌<◌, ◌≤◌, Bool, true, false, List, [], ◌∷◌, ◌++◌, append_assoc, length, take, drop, get_or, codes, Option, Some, None, MatchOption, refl, sym, ap, ◌∙◌, arith, Bor}
 use Rattle.std.specs.List.{list_any}
 use Rattle.std.proofs.lemmas.List.{append_cancel_left, drop_more, get_or_at, take-append-drop}
+use Rattle.std.proofs.lemmas.Bool.{or_parts, false_from_ne_true}
 use Rattle.edi_line.specs.Bytes.{semicolon, line_feed}
 use Rattle.edi_pairing.specs.Names.{AreNames, is_mark, name_at}
 use Rattle.edi_pairing.specs.PairingText.{front_of, line_end, line_of}
@@ -10,10 +11,6 @@ use Rattle.edi_pairing.specs.inner.Reading.{BeginsWith, IsCutAtMark}
 use Rattle.edi_pairing.specs.declared.names.RecordName.{RecordName}
 
 -- ---- fronts without a mark
-
-neither : (a b : Bool) → (a || b) ≡ false → (a ≡ false) × (b ≡ false)
-neither true b h = cc
-neither false b h = (refl, h)
 
 true_false : true ≡ false → ⊥
 true_false h = cc
@@ -27,11 +24,11 @@ same_tail c d x y h = cc
 pub plain_apart : (p q x y : List ℕ) (c d : ℕ) → list_any is_mark p ≡ false → list_any is_mark q ≡ false → is_mark c ≡ true → is_mark d ≡ true → p ++ c ∷ x ≡ q ++ d ∷ y → (p ≡ q) × (c ∷ x ≡ d ∷ y)
 plain_apart [] [] x y c d hp hq hc hd e = (refl, e)
 plain_apart [] (b ∷ q) x y c d hp hq hc hd e =
-    absurd (true_false (sym hc ∙ (ap is_mark (same_head c b x (q ++ d ∷ y) e) ∙ (neither (is_mark b) (list_any is_mark q) hq).0)))
+    absurd (true_false (sym hc ∙ (ap is_mark (same_head c b x (q ++ d ∷ y) e) ∙ (or_parts (is_mark b) (list_any is_mark q) hq).0)))
 plain_apart (a ∷ p) [] x y c d hp hq hc hd e =
-    absurd (true_false (sym hd ∙ (ap is_mark (sym (same_head a d (p ++ c ∷ x) y e)) ∙ (neither (is_mark a) (list_any is_mark p) hp).0)))
+    absurd (true_false (sym hd ∙ (ap is_mark (sym (same_head a d (p ++ c ∷ x) y e)) ∙ (or_parts (is_mark a) (list_any is_mark p) hp).0)))
 plain_apart (a ∷ p) (b ∷ q) x y c d hp hq hc hd e =
-    let more = plain_apart p q x y c d (neither (is_mark a) (list_any is_mark p) hp).1 (neither (is_mark b) (list_any is_mark q) hq).1 hc hd (same_tail a b (p ++ c ∷ x) (q ++ d ∷ y) e) in
+    let more = plain_apart p q x y c d (or_parts (is_mark a) (list_any is_mark p) hp).1 (or_parts (is_mark b) (list_any is_mark q) hq).1 hc hd (same_tail a b (p ++ c ∷ x) (q ++ d ∷ y) e) in
     (λ i. same_head a b (p ++ c ∷ x) (q ++ d ∷ y) e i ∷ more.0 i, more.1)
 
 -- the first bytes hold no mark
@@ -43,15 +40,11 @@ front_plain (c ∷ text) (suc at) within none =
     let more = front_plain text at (omega arith) (λ k h. none (suc k) (omega arith)) in
     rw here more
 
-bool_false : (b : Bool) → (b ≡ true → ⊥) → b ≡ false
-bool_false true other = absurd (other refl)
-bool_false false other = refl
-
 pub cut_at_mark : (text front end : List ℕ) (at : ℕ) → at < length text → is_mark (get_or text at 0) ≡ true → ((k : ℕ) → 0 ≤ k → k < at → ¬ (is_mark (get_or text k 0) ≡ true)) → front ≡ take at text → end ≡ drop at text
     → IsCutAtMark text front end
 cut_at_mark text front end at within is before f e = record {
   joined = sym (take-append-drop at text) ∙ (λ i. sym f i ++ sym e i);
-  plain = ap (list_any is_mark) f ∙ front_plain text at (omega arith) (λ k h. bool_false _ (before k (omega arith) h));
+  plain = ap (list_any is_mark) f ∙ front_plain text at (omega arith) (λ k h. false_from_ne_true _ (before k (omega arith) h));
   mark = get_or text at 0;
   rest = drop (at + 1) text;
   begins = e ∙ drop_more text at 0 within;

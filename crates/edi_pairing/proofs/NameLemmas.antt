@@ -1,10 +1,10 @@
 -- What holds of the names of an accepted sheet.
 use Rattle.std.proofs.Common.{◌≡◌, ℕ, zero, suc, ◌-◌, ◌<◌, ◌≤◌, ◌^◌, ◌⊎◌, inl, inr, Bool, true, false, not, ◌&&◌, ◌||◌, ◌==◌, nat_le, List, [], ◌∷◌, length, Some, slice_get, refl, sym, ap, ◌∙◌, subst, arith}
 use Rattle.std.specs.List.{list_any, AllByRecursion}
-use Rattle.std.proofs.lemmas.Bool.{cases_lt}
+use Rattle.std.proofs.lemmas.Bool.{cases_lt, or_parts, and_parts, not-true}
 use Rattle.std.proofs.lemmas.List.{length-map}
 use Rattle.std.proofs.lemmas.List.Folds.{list_any_none}
-use Rattle.std.proofs.lemmas.Option.{slice_get_within}
+use Rattle.std.proofs.lemmas.Option.{slice_get_within, same_Some}
 use Rattle.edi_line.specs.Bytes.{line_feed}
 use Rattle.edi_line.specs.Printing.{IsOneLine}
 use Rattle.edi_record.proofs.ReadRecords.{sheet_read}
@@ -24,9 +24,6 @@ use Rattle.edi_compare.specs.Rules.Breaks.{of_references}
 use Rattle.edi_pairing.specs.Names.{AreNames, is_mark, name_at, names_of}
 use Rattle.edi_pairing.specs.declared.names.RecordName.{RecordName}
 
-same_some : {X : Type 0} (a b : X) → Some a ≡ Some b → a ≡ b
-same_some a b h = cc
-
 -- the record at a place, and its name
 pub record_there : (list : List Record) (k : ℕ) → k < length list → (r : Record) × (slice_get list k ≡ Some r)
 record_there [] k less = absurd (omega arith)
@@ -39,7 +36,7 @@ named r = record { kind = r.kind; rid = r.rid }
 named_there : (list : List Record) (k : ℕ) (r : Record) → slice_get list k ≡ Some r → name_at (names_of list) k ≡ named r
 unfolding named
 named_there [] k r e = let l = slice_get_within [] k r e in absurd (omega (arith, l))
-named_there (q ∷ qs) zero r e = ap named (same_some q r e)
+named_there (q ∷ qs) zero r e = ap named (same_Some q r e)
 named_there (q ∷ qs) (suc k) r e = named_there qs k r e
 
 pub kind_there : (list : List Record) (k : ℕ) (r : Record) → slice_get list k ≡ Some r → (name_at (names_of list) k).kind ≡ r.kind
@@ -48,35 +45,22 @@ kind_there list k r e = ap (λ (n : RecordName). n.kind) (named_there list k r e
 
 holds_there : {X : Type 0} (P : X → Type 0) (xs : List X) (k : ℕ) (x : X) → AllByRecursion P xs → slice_get xs k ≡ Some x → P x
 holds_there P [] k x all e = let l = slice_get_within [] k x e in absurd (omega (arith, l))
-holds_there P (y ∷ ys) zero x all e = subst P (same_some y x e) all.0
+holds_there P (y ∷ ys) zero x all e = subst P (same_Some y x e) all.0
 holds_there P (y ∷ ys) (suc k) x all e = holds_there P ys k x all.1 e
 
 -- ---- identifiers without marks
 
-neither : (a b : Bool) → (a || b) ≡ false → (a ≡ false) × (b ≡ false)
-neither true b h = cc
-neither false b h = (refl, h)
-
 none_of_both : (p q : ℕ → Bool) (xs : List ℕ) → list_any p xs ≡ false → list_any q xs ≡ false → list_any (λ c. p c || q c) xs ≡ false
 none_of_both p q [] hp hq = refl
 none_of_both p q (x ∷ xs) hp hq =
-    let ps = neither (p x) (list_any p xs) hp in
-    let qs = neither (q x) (list_any q xs) hq in
+    let ps = or_parts (p x) (list_any p xs) hp in
+    let qs = or_parts (q x) (list_any q xs) hq in
     rw (ps.0, qs.0) (none_of_both p q xs ps.1 qs.1)
-
-both : (a b : Bool) → (a && b) ≡ true → (a ≡ true) × (b ≡ true)
-both true true h = (refl, refl)
-both true false h = cc
-both false b h = cc
-
-not_true : (a : Bool) → not a ≡ true → a ≡ false
-not_true true h = cc
-not_true false h = refl
 
 plain_identifier : (rid : List ℕ) → is_identifier rid ≡ true → IsOneLine rid → list_any is_mark rid ≡ false
 plain_identifier rid h one =
-    let short = both (nat_le 1 (length rid)) (nat_le (length rid) 255 && not (list_any is_semicolon rid)) h in
-    let no_semicolon = not_true (list_any is_semicolon rid) (both (nat_le (length rid) 255) (not (list_any is_semicolon rid)) short.1).1 in
+    let short = and_parts (nat_le 1 (length rid)) (nat_le (length rid) 255 && not (list_any is_semicolon rid)) h in
+    let no_semicolon = not-true (list_any is_semicolon rid) (and_parts (nat_le (length rid) 255) (not (list_any is_semicolon rid)) short.1).1 in
     none_of_both is_semicolon (λ c. c == line_feed) rid no_semicolon (list_any_none (λ c. c == line_feed) rid one)
 
 -- ---- the names of an accepted sheet

@@ -1,5 +1,5 @@
 -- The names that are taken of a file's zones are those of its records.
-use Rattle.std.proofs.Common.{◌≡◌, ◌<◌, ◌^◌, ℕ, List, [], ◌∷◌, ◌++◌, map, length, Some, option_and_then, unwrap_or, codes, true, refl, sym, ap, ◌∙◌, subst}
+use Rattle.std.proofs.Common.{◌≡◌, ◌<◌, ◌^◌, ℕ, List, [], ◌∷◌, ◌++◌, map, length, option_and_then, unwrap_or, codes, true, refl, sym, ap, ◌∙◌, subst}
 use Rattle.std.specs.List.{AllZip}
 use Rattle.edi_line.specs.ZoneData.{ZoneData, first}
 use Rattle.edi_line.specs.Groups.{IsOneRecord}
@@ -7,13 +7,13 @@ use Rattle.edi_line.specs.Zones.{begins_group, groups_of}
 use Rattle.edi_line.proofs.ZonesSaid.{zones_of_one}
 use Rattle.edi_record.specs.Observers.{SawAll}
 use Rattle.edi_record.specs.Records.{States}
-use Rattle.edi_record.specs.Shapes.{kind_code}
 use Rattle.edi_record.specs.declared.record.Kind.{Kind}
-use Rattle.edi_record.specs.declared.record.Kind.TheVariants.{Pno, Par, Pfe, Fea, Lnk}
+use Rattle.edi_record.specs.declared.record.Kind.TheVariants.{Pno}
 use Rattle.edi_record.specs.declared.record.Record.{Record}
 use Rattle.edi_record.specs.Titles.{IsTitleOf, TitleData}
 use Rattle.edi_record.specs.inner.RecordRules.{kind_in, kind_named}
 use Rattle.edi_record.proofs.GroupCuts.{value_here}
+use Rattle.edi_record.proofs.KindCodes.{kind_again}
 use Rattle.edi_schema.specs.Classes.{Classes}
 use Rattle.edi_plan.specs.Plans.{PlanData}
 use Rattle.edi_compare.specs.PlanOfFile.{IsPlanOfFile}
@@ -55,15 +55,8 @@ pub taken_push : (names : List RecordName) (groups : List (List ZoneData)) (grou
 taken_push names groups group title name held one is h =
     ap (λ list. list ++ name ∷ []) held ∙ (ap (λ n. map taken_name groups ++ n ∷ []) (h ∙ titled group title one is) ∙ sym (pushed groups group))
 
-named_back : (kind : Kind) → kind_named (kind_code kind) ≡ Some kind
-named_back Pno = refl
-named_back Par = refl
-named_back Pfe = refl
-named_back Fea = refl
-named_back Lnk = refl
-
 kind_is : (group : List ZoneData) (r : Record) → States group r → taken_kind group ≡ r.kind
-kind_is group r h = ap (λ codes. unwrap_or (option_and_then kind_named (first codes)) Pno) h.type ∙ ap (λ kind. unwrap_or kind Pno) (named_back r.kind)
+kind_is group r h = ap (λ codes. unwrap_or (option_and_then kind_named (first codes)) Pno) h.type ∙ ap (λ kind. unwrap_or kind Pno) (kind_again r.kind)
 
 rid_is : (group : List ZoneData) (r : Record) → States group r → taken_rid group ≡ r.rid
 rid_is group r h = ap (λ rids. unwrap_or (first rids) []) h.rid

@@ -6,6 +6,7 @@ use Rattle.std.proofs.lemmas.List.{get_or-map, get_or-take, get_or_default, leng
 use Rattle.std.proofs.lemmas.List.Quantifiers.{position-Some}
 use Rattle.std.proofs.lemmas.List.Sums.{fails_before_first}
 use Rattle.std.proofs.lemmas.Slice.Eq.{bytes_eq-Decides}
+use Rattle.std.proofs.lemmas.Bool.{and_parts, false_from_ne_true}
 use Rattle.indexmap.specs.IndexSet.{insert_key}
 use Rattle.edi_record.proofs.GroupCuts.{place_at_None}
 use Rattle.edi_record.specs.declared.record.Kind.{Kind}
@@ -51,15 +52,10 @@ kind_itself Pfe = refl
 kind_itself Fea = refl
 kind_itself Lnk = refl
 
-both : (a b : Bool) → (a && b) ≡ true → (a ≡ true) × (b ≡ true)
-both true true h = (refl, refl)
-both true false h = cc
-both false b h = cc
-
 -- two borrowed names that `==` holds equal are one name
 pub eq_name : (a b : BorrowedName) → names.eq a b ≡ true → owned_name a ≡ owned_name b
 eq_name a b h =
-    let parts = both (kinds.eq a.kind b.kind) (bytes_eq a.rid.now b.rid.now) h in
+    let parts = and_parts (kinds.eq a.kind b.kind) (bytes_eq a.rid.now b.rid.now) h in
     let kind = kind_same a.kind b.kind parts.0 in
     let rid = (bytes_eq-Decides a.rid.now b.rid.now).0 parts.1 in
     λ i. record { kind = kind i; rid = rid i }
@@ -84,10 +80,6 @@ any_at name (k ∷ ks) h = go (names.eq name k) refl h (any_at name ks)
     go true t h more = (0, omega arith, sym (eq_name name k t))
     go false t h more = let m = more h in (suc m.0, omega (arith, m.1), m.2)
 
-bool_false : (b : Bool) → (b ≡ true → ⊥) → b ≡ false
-bool_false true other = absurd (other refl)
-bool_false false other = refl
-
 module _ (all : List RecordName) (are : AreNames all) where
   -- the next name goes last
   pub name_added : (keys new : List BorrowedName) (i : ℕ) (name : BorrowedName) (x : RecordName) → i < length all → map owned_name keys ≡ take i all → x ≡ get_or all i x → owned_name name ≡ x → new ≡ insert_key names.eq keys name
@@ -95,7 +87,7 @@ module _ (all : List RecordName) (are : AreNames all) where
   name_added keys new i name x less e at is added =
       let here : name_at all i ≡ owned_name name = get_or_default all i _ x less ∙ (sym at ∙ sym is) in
       let long : length keys ≡ i = sym (length-map keys owned_name) ∙ (ap length e ∙ length-take-le i all (omega arith)) in
-      let alone : list_any (names.eq name) keys ≡ false = bool_false _ (λ t.
+      let alone : list_any (names.eq name) keys ≡ false = false_from_ne_true _ (λ t.
       let found = any_at name keys t in
       let below : found.0 < i = omega (arith, found.1, long) in
       let there : name_at all found.0 ≡ owned_name name = sym (get_or-take i all found.0 _ below) ∙ (ap (λ ns. name_at ns found.0) (sym e) ∙ found.2) in

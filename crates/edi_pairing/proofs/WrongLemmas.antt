@@ -1,16 +1,18 @@
 -- The first reason why a line is wrong.
-use Rattle.std.proofs.Common.{◌≡◌, ◌≢◌, ℕ, zero, suc, ◌+◌, ◌-◌, ◌<◌, ◌≤◌, ◌⊎◌, inl, inr, Bool, true, false, ◌||◌, List, [], ◌∷◌, ◌++◌, append_assoc, eqb-true, length, length-append, take, drop, get_or, refl, sym, ap, ◌∙◌, subst, arith, Option, Some, None}
+use Rattle.std.proofs.Common.{◌≡◌, ◌≢◌, ℕ, zero, suc, ◌+◌, ◌-◌, ◌<◌, ◌≤◌, ◌⊎◌, inl, inr, Bool, true, false, List, [], ◌∷◌, ◌++◌, append_assoc, eqb-true, length, length-append, take, drop, get_or, refl, sym, ap, ◌∙◌, subst, arith, Option, Some, None}
 use Rattle.std.specs.Prelude.{slice_index_or}
 use Rattle.std.specs.List.{list_any}
-use Rattle.std.proofs.lemmas.Bool.{cases_lt}
+use Rattle.std.proofs.lemmas.Bool.{cases_lt, false_from_ne_true, or_right}
 use Rattle.std.proofs.lemmas.List.{drop_more, get_or_append_left, get_or_at, get_or-take, length-take-le, take-append-drop}
 use Rattle.std.proofs.lemmas.List.Folds.{list_any-append, list_any_at}
+use Rattle.std.proofs.lemmas.Option.{same_Some}
 use Rattle.edi_line.specs.Bytes.{semicolon, line_feed}
 use Rattle.edi_record.proofs.Parts.{code_named}
 use Rattle.edi_record.specs.Shapes.{kind_code}
 use Rattle.edi_record.specs.declared.record.Kind.{Kind}
 use Rattle.edi_record.specs.declared.record.Kind.TheVariants.{Pno, Par, Pfe, Fea, Lnk}
 use Rattle.edi_record.specs.inner.RecordRules.{kind_named}
+use Rattle.edi_record.proofs.KindCodes.{kind_again}
 use Rattle.edi_pairing.specs.Laws.{WrongLinesHaveOneReason}
 use Rattle.edi_pairing.specs.Names.{AreNames, is_mark, name_at}
 use Rattle.edi_pairing.specs.PairingText.{Begins, Pairs, line_end, line_of}
@@ -26,16 +28,12 @@ use Rattle.edi_pairing.proofs.TextLemmas.{lines_apart}
 true_false : true ≡ false → ⊥
 true_false h = cc
 
-bool_false : (b : Bool) → (b ≡ true → ⊥) → b ≡ false
-bool_false true other = absurd (other refl)
-bool_false false other = refl
-
 -- ---- line feeds
 
 none_any : (p : ℕ → Bool) (xs : List ℕ) → ((k : ℕ) → k < length xs → ¬ (p (get_or xs k 0) ≡ true)) → list_any p xs ≡ false
 none_any p [] none = refl
 none_any p (x ∷ xs) none =
-    let here : p x ≡ false = bool_false (p x) (none 0 (omega arith)) in
+    let here : p x ≡ false = false_from_ne_true (p x) (none 0 (omega arith)) in
     let more = none_any p xs (λ k h. none (suc k) (omega arith)) in
     rw here more
 
@@ -86,12 +84,8 @@ module _ (text : List ℕ) (at : ℕ) (within : at < length text) (is : is_line_
           go (inl less) t (inl in_line) = absurd (not_in in_line)
           go (inl less) t (inr out) = absurd (not_at (omega arith))
 
-or_true : (a b : Bool) → b ≡ true → (a || b) ≡ true
-or_true true b e = refl
-or_true false b e = e
-
 returned_ended : (text : List ℕ) → EndsInReturn text → list_any is_line_feed text ≡ true
-returned_ended text h = ap (list_any is_line_feed) h.cut ∙ (list_any-append is_line_feed h.line (13 ∷ 10 ∷ h.rest) ∙ or_true (list_any is_line_feed h.line) (list_any is_line_feed (13 ∷ 10 ∷ h.rest)) refl)
+returned_ended text h = ap (list_any is_line_feed) h.cut ∙ (list_any-append is_line_feed h.line (13 ∷ 10 ∷ h.rest) ∙ or_right (list_any is_line_feed h.line) (list_any is_line_feed (13 ∷ 10 ∷ h.rest)) refl)
 
 ended_some : (text : List ℕ) → list_any is_line_feed text ≡ true → text ≢ []
 ended_some text e none = true_false (sym e ∙ ap (list_any is_line_feed) none)
@@ -104,16 +98,6 @@ code_plain Par = refl
 code_plain Pfe = refl
 code_plain Fea = refl
 code_plain Lnk = refl
-
-code_known : (kind : Kind) → kind_named (kind_code kind) ≡ Some kind
-code_known Pno = refl
-code_known Par = refl
-code_known Pfe = refl
-code_known Fea = refl
-code_known Lnk = refl
-
-same_some : {X : Type 0} (x y : X) → Some x ≡ Some y → x ≡ y
-same_some x y e = cc
 
 some_none : {X : Type 0} (x : X) → ◌≡◌ {A = Option X} (Some x) None → ⊥
 some_none x e = cc
@@ -156,7 +140,7 @@ module _ (text code rest : List ℕ) (plain : list_any is_mark code ≡ false) (
   behind_code name other h = field_apart code (kind_code name.kind) rest (name.rid ++ semicolon ∷ (other ++ (line_end h.turned ++ h.rest))) plain (code_plain name.kind) (sym cut ∙ in_fields text name other h)
 
   pub no_kind : None ≡ kind_named code → (name : RecordName) (other : List ℕ) → ¬ (IsLineOf text name other)
-  no_kind none name other h = some_none name.kind (sym (none ∙ (ap kind_named (behind_code name other h).0 ∙ code_known name.kind)))
+  no_kind none name other h = some_none name.kind (sym (none ∙ (ap kind_named (behind_code name other h).0 ∙ kind_again name.kind)))
 
   pub no_identifier : ((field more : List ℕ) → list_any is_mark field ≡ false → rest ≢ field ++ semicolon ∷ more) → (name : RecordName) (other : List ℕ) → ¬ (IsLineOf text name other)
   no_identifier none name other h = none name.rid _ h.plain (behind_code name other h).1
@@ -186,7 +170,7 @@ line_of_one : (text : List ℕ) (m n : RecordName) (x y : List ℕ) → IsLineOf
 line_of_one text m n x y g h =
     let codes = field_apart (kind_code m.kind) (kind_code n.kind) _ _ (code_plain m.kind) (code_plain n.kind) (sym (in_fields text m x g) ∙ in_fields text n y h) in
     let rids = field_apart m.rid n.rid _ _ g.plain h.plain codes.1 in
-    let kind : m.kind ≡ n.kind = same_some m.kind n.kind (sym (code_known m.kind) ∙ (ap kind_named codes.0 ∙ code_known n.kind)) in
+    let kind : m.kind ≡ n.kind = same_Some m.kind n.kind (sym (kind_again m.kind) ∙ (ap kind_named codes.0 ∙ kind_again n.kind)) in
     let ends = end_parts g.turned g.rest in
     let ends' = end_parts h.turned h.rest in
     let last = plain_apart x y ends.1 ends'.1 ends.0 ends'.0 g.plain_other h.plain_other ends.3 ends'.3 (ap (λ t. x ++ t) (sym ends.2) ∙ (rids.1 ∙ ap (λ t. y ++ t) ends'.2)) in

@@ -1,6 +1,6 @@
 -- Ends that are counted by twos.
 use Rattle.std.proofs.Common.{◌≡◌, ◌↔◌, ℕ, ◌<◌, ◌≤◌, ◌^◌, w64, to_z, of_z, ◌+◌, ◌%◌, ◌==◌, ◌&&◌, ◌||◌, Bool, true, false, not, cond, List, [], ◌∷◌, ◌++◌, length, take, refl, sym, ap, ◌∙◌, subst, arith, IsTrue, None, eqb-true, eq-eqb, ℤ, pos, negsuc}
-use Rattle.std.proofs.lemmas.Bool.{eqb-false}
+use Rattle.std.proofs.lemmas.Bool.{eqb-false, false_from_ne_true, and_parts, and_from, not-true, and_right}
 use Rattle.std.proofs.lemmas.Int.{fits_signed_from_abs, ints, to_z-of_z}
 use Rattle.edi_line.specs.Number.{size_of}
 use Rattle.std.proofs.lemmas.List.{take_all}
@@ -14,6 +14,7 @@ use Rattle.std.specs.BTreeMap.{is_at}
 use Rattle.std.specs.BTreeSet.{BTreeSet, btree_set_len, contains}
 use Rattle.std.specs.declared.cmp.Ordering.{Ordering}
 use Rattle.std.specs.declared.cmp.Ordering.TheVariants.{Less, Equal, Greater}
+use Rattle.edi_line.proofs.Truths.{not-not}
 use Rattle.edi_record.specs.declared.record.Point.{Point}
 use Rattle.edi_picture.specs.Faces.{form_rings, same_spot}
 use Rattle.edi_picture.specs.Frames.{distance}
@@ -31,10 +32,6 @@ no_gap a b e = let none = zero_gap (b -ℤ a) e in omega (arith, ints)
 itself_near : (a b : ℤ) → a ≡ b → distance b a ≡ 0
 itself_near a b e = let none : b -ℤ a ≡ pos 0 = omega (arith, ints) in ap unsigned_abs none
 
-no_case : (b : Bool) → (b ≡ true → ⊥) → b ≡ false
-no_case true h = absurd (h refl)
-no_case false h = refl
-
 below_self : (a b : ℤ) → a <ℤ b → b ≡ a → ⊥
 below_self a b less same = omega (arith, ints)
 
@@ -42,9 +39,9 @@ gap : (a b : ℤ) → (distance b a == 0) ≡ is_eq (int_cmp a b)
 gap a b = go (int_cmp a b) (int_ranks a b)
   where
     go : (o : Ordering) → MatchOrdering o (a <ℤ b) (a ≡ b) (b <ℤ a) → (distance b a == 0) ≡ is_eq o
-    go Less less = no_case (distance b a == 0) (λ t. below_self a b less (no_gap a b (eqb-true (distance b a) 0 t)))
+    go Less less = false_from_ne_true (distance b a == 0) (λ t. below_self a b less (no_gap a b (eqb-true (distance b a) 0 t)))
     go Equal same = eq-eqb (distance b a) 0 (itself_near a b same)
-    go Greater more = no_case (distance b a == 0) (λ t. below_self b a more (sym (no_gap a b (eqb-true (distance b a) 0 t))))
+    go Greater more = false_from_ne_true (distance b a == 0) (λ t. below_self b a more (sym (no_gap a b (eqb-true (distance b a) 0 t))))
 
 -- two places are one in the order exactly if they are one spot
 at_same : (e q : Point) → is_at (spot_cmp (e.x, e.y)) (q.x, q.y) ≡ same_spot q e
@@ -52,22 +49,14 @@ at_same e q =
     sym (tied_then (int_cmp e.x q.x) (int_cmp e.y q.y))
     ∙ (ap (λ b. b && is_eq (int_cmp e.y q.y)) (sym (gap e.x q.x)) ∙ ap (λ b. (distance q.x e.x == 0) && b) (sym (gap e.y q.y)))
 
-both : (b d : Bool) → (b && d) ≡ true → (b ≡ true) × (d ≡ true)
-both true true e = (refl, refl)
-both true false e = absurd cc
-both false d e = absurd cc
-
 same_said : (q e : Point) → same_spot q e ≡ true → (q.x ≡ e.x) × (q.y ≡ e.y)
 same_said q e t =
-    let parts = both (distance q.x e.x == 0) (distance q.y e.y == 0) t in
+    let parts = and_parts (distance q.x e.x == 0) (distance q.y e.y == 0) t in
     (no_gap e.x q.x (eqb-true (distance q.x e.x) 0 parts.0), no_gap e.y q.y (eqb-true (distance q.y e.y) 0 parts.1))
-
-and_true : (b d : Bool) → b ≡ true → d ≡ true → (b && d) ≡ true
-and_true b d h k = rw (h, k) refl
 
 same_self : (q : Point) → same_spot q q ≡ true
 same_self q =
-    and_true (distance q.x q.x == 0) (distance q.y q.y == 0) (eq-eqb (distance q.x q.x) 0 (itself_near q.x q.x refl)) (eq-eqb (distance q.y q.y) 0 (itself_near q.y q.y refl))
+    and_from (distance q.x q.x == 0) (distance q.y q.y == 0) (eq-eqb (distance q.x q.x) 0 (itself_near q.x q.x refl)) (eq-eqb (distance q.y q.y) 0 (itself_near q.y q.y refl))
 
 -- ---- counts
 
@@ -91,10 +80,6 @@ odd_next n = go (n % 2 == 0) refl ((n + 1) % 2 == 0) refl
         neither : (n % 2 == 0) ≡ false → ((n + 1) % 2 == 0) ≡ false → ⊥
         neither e f = let one = eqb-false (n % 2) 0 e in let two = eqb-false ((n + 1) % 2) 0 f in omega (arith, one, two)
 
-twice : (b : Bool) → not (not b) ≡ b
-twice true = refl
-twice false = refl
-
 -- ---- one end more
 
 small : (z : ℤ) → size_of z ≤ 999999999999999 → unsigned_abs z < 2 ^ 63
@@ -112,7 +97,7 @@ turned old new e b was is ends h q =
   where
     go : (t : Bool) → same_spot q e ≡ t → cond t b (contains spot_cmp old (q.x, q.y)) ≡ is_odd (count_by (same_spot q) ends + cond t 1 0)
     go true same =
-        sym (odd_next (count_by (same_spot q) ends) ∙ (ap (λ n. not (is_odd n)) (count_same q e (same_said q e same) ends) ∙ (ap not (sym (h e) ∙ was) ∙ twice b)))
+        sym (odd_next (count_by (same_spot q) ends) ∙ (ap (λ n. not (is_odd n)) (count_same q e (same_said q e same) ends) ∙ (ap not (sym (h e) ∙ was) ∙ not-not b)))
     go false other = let none : count_by (same_spot q) ends + 0 ≡ count_by (same_spot q) ends = omega arith in h q ∙ sym (ap is_odd none)
 
 abbrev two : ℤ → ℤ → ℤ × ℤ
@@ -140,19 +125,11 @@ none_odd odd none q = ap (list_any (is_at (spot_cmp (q.x, q.y)))) none
 
 every : (p : Point → Bool) → ((q : Point) → p q ≡ true) → (xs : List Point) → list_all p xs ≡ true
 every p h [] = refl
-every p h (x ∷ xs) = and_true (p x) (list_all p xs) (h x) (every p h xs)
+every p h (x ∷ xs) = and_from (p x) (list_all p xs) (h x) (every p h xs)
 
 from_not : (b : Bool) → false ≡ not b → b ≡ true
 from_not true e = refl
 from_not false e = absurd cc
-
-to_not : (b : Bool) → not b ≡ true → b ≡ false
-to_not true e = absurd cc
-to_not false e = refl
-
-and_false : (b d : Bool) → d ≡ false → (b && d) ≡ false
-and_false true d e = e
-and_false false d e = refl
 
 count_first : (f : Point → Bool) (x : Point) (xs : List Point) → count_by f (x ∷ xs) ≡ cond (f x) 1 0 + count_by f xs
 count_first f x xs = let split = sum_by-append (λ (y : Point). cond (f y) 1 0) (x ∷ []) xs in omega (arith, split)
@@ -166,7 +143,7 @@ not_all p f h (x ∷ xs) some = go (f x) refl (not_all p f h xs)
   where
     go : (b : Bool) → f x ≡ b → ((count_by f xs ≡ 0 → ⊥) → list_all p xs ≡ false) → list_all p (x ∷ xs) ≡ false
     go true e later = ap (λ t. t && list_all p xs) (h x e)
-    go false e later = and_false (p x) (list_all p xs) (later (λ none. some (count_first f x xs ∙ (ap (λ t. cond t 1 0 + count_by f xs) e ∙ (nothing_more (count_by f xs) ∙ none)))))
+    go false e later = and_right (p x) (list_all p xs) (later (λ none. some (count_first f x xs ∙ (ap (λ t. cond t 1 0 + count_by f xs) e ∙ (nothing_more (count_by f xs) ∙ none)))))
 
 pub closed : (odd : BTreeSet (ℤ × ℤ)) (ends : List Point) (b : Bool) → IsTrue b ↔ (btree_set_len odd ≡ 0) → HasOdd odd ends → b ≡ form_rings ends
 closed odd ends b is h = go odd.keys refl
@@ -177,9 +154,9 @@ closed odd ends b is h = go odd.keys refl
         ∙ sym (every (λ q. count_by (same_spot q) ends % 2 == 0)
         (λ q. from_not (count_by (same_spot q) ends % 2 == 0) (sym (ap (list_any (is_at (spot_cmp (q.x, q.y)))) none) ∙ h q)) ends)
     go (k ∷ ks) some =
-        no_case b (λ t. let long = is.0 t in let other = ap length some in omega (arith, long, other))
+        false_from_ne_true b (λ t. let long = is.0 t in let other = ap length some in omega (arith, long, other))
         ∙ sym (not_all (λ q. count_by (same_spot q) ends % 2 == 0) (same_spot at)
-        (λ e t. to_not (count_by (same_spot e) ends % 2 == 0) (ap is_odd (sym (count_same at e (same_said at e t) ends)) ∙ is_there)) ends
+        (λ e t. not-true (count_by (same_spot e) ends % 2 == 0) (ap is_odd (sym (count_same at e (same_said at e t) ends)) ∙ is_there)) ends
         (λ none. let e = sym (ap is_odd none) ∙ is_there in cc))
       where
         at : Point

@@ -2,7 +2,6 @@
 use Rattle.std.proofs.Common.{◌≡◌, ◌+◌, List, [], ◌∷◌, map, map-id, get_or, Option, Result, Ok, Err, IfOk, Ordering, is_lt, sym, ap, ap₂, ◌∙◌, subst, arith, IsPermutation, IsSorted}
 use Rattle.std.specs.Cmp.{IsTotalOrder}
 use Rattle.std.specs.Iterator.Runs.{WholeRun}
-use Rattle.std.specs.List.{AllByRecursion}
 use Rattle.std.specs.declared.vec.Vec.{Vec}
 use Rattle.std.proofs.lemmas.Iterator.{YieldsList}
 use Rattle.std.proofs.lemmas.List.{get_or-map, length-map}
@@ -11,10 +10,6 @@ use Rattle.std.proofs.lemmas.Map.Lookups.{CmpEqualImpliesEq}
 use Rattle.itertools.proofs.AdaptorLemmas.{items_from_whole_run}
 use Rattle.edi_schema.specs.Sorted.{sort_by}
 use Rattle.edi_schema.proofs.SortedLists.{sorted_is}
-
-pub all_borrowed : {X Y : Type 0} (f : X → Y) (P : Y → Type 0) (xs : List X) → AllByRecursion P (map f xs) → AllByRecursion (λ x. P (f x)) xs
-all_borrowed f P [] all = tt
-all_borrowed f P (x ∷ xs) all = (all.0, all_borrowed f P xs all.1)
 
 module _ {X Y : Type 0} (f : X → Y) (cmp : Y → Y → Ordering) (total : IsTotalOrder cmp) (exact : CmpEqualImpliesEq cmp) (below : X → X → Ordering) (same : (a b : X) → below a b ≡ cmp (f a) (f b)) where
   sorted_mapped : (xs : List X) → IsSorted below xs → IsSorted cmp (map f xs)

@@ -1,10 +1,9 @@
 -- The plan of a sheet that breaks no rule of references.
-use Rattle.std.proofs.Common.{◌≡◌, ◌≢◌, ℕ, zero, suc, ◌+◌, ◌-◌, ◌<◌, ◌≤◌, Bool, true, false, cond, not, ◌&&◌, nat_lt, List, [], ◌∷◌, length, map, get_or, Option, Some, None, option_map, unwrap_or, slice_get, position, count_by, refl, sym, ap, ap₂, ◌∙◌, subst, arith, true≢false, ◌⊎◌, inl, inr, eqb-true, IsTrue, Any}
+use Rattle.std.proofs.Common.{◌≡◌, ◌≢◌, ℕ, zero, suc, ◌+◌, ◌-◌, ◌<◌, ◌≤◌, Bool, true, false, cond, not, nat_lt, List, [], ◌∷◌, length, get_or, Option, Some, None, option_map, unwrap_or, slice_get, position, count_by, refl, sym, ap, ap₂, ◌∙◌, subst, arith, true≢false, ◌⊎◌, inl, inr, eqb-true, Any}
 use Rattle.std.specs.List.{AllZip, AllByRecursion, position_or_len, list_all}
 use Rattle.std.specs.Map.{lookup, keys_of}
-use Rattle.std.proofs.lemmas.Bool.{ltb-true}
+use Rattle.std.proofs.lemmas.Bool.{ltb-true, and_parts}
 use Rattle.std.proofs.lemmas.Option.{same_Some, none-some, get_or_from_slice_get}
-use Rattle.std.proofs.lemmas.List.Sums.{sum_by-cons}
 use native.Mathlib.Decide.{dec_le}
 use Rattle.edi_record.specs.Records.{IsValueOf, is_link, SheetData}
 use Rattle.edi_record.specs.inner.Records.{value_of}
@@ -23,6 +22,7 @@ use Rattle.edi_record.specs.declared.record.Record.{Record}
 use Rattle.edi_record.specs.LinkEnds.{EndData}
 use Rattle.edi_record.specs.declared.record.Kind.{Kind}
 use Rattle.edi_record.specs.declared.record.Kind.TheVariants.{Pno, Par, Pfe, Fea, Lnk}
+use Rattle.edi_record.proofs.KindCodes.{link_is}
 use Rattle.edi_schema.specs.Classes.{Classes, is_name, place_of, role_of, role_named, class_at, class_named, is_number_of, is_number_named}
 use Rattle.edi_schema.specs.Roles.{is_plain}
 use Rattle.edi_schema.specs.declared.role.Role.{Role}
@@ -73,18 +73,6 @@ zip_one R R' one [] (y ∷ ys) zs h g = absurd h
 zip_one R R' one (x ∷ xs) [] zs h g = absurd h
 zip_one R R' one (x ∷ xs) (y ∷ ys) [] h g = absurd g
 zip_one R R' one (x ∷ xs) (y ∷ ys) (z ∷ zs) h g = ap₂ ◌∷◌ (one x y z h.0 g.0) (zip_one R R' one xs ys zs h.1 g.1)
-
-pub both_true : (a b : Bool) → a && b ≡ true → (a ≡ true) × (b ≡ true)
-both_true true true h = (refl, refl)
-both_true true false h = absurd (true≢false (sym h))
-both_true false b h = absurd (true≢false (sym h))
-
-pub link_is : (k : Kind) → is_link k ≡ true → k ≡ Lnk
-link_is Pno h = absurd (true≢false (sym h))
-link_is Par h = absurd (true≢false (sym h))
-link_is Pfe h = absurd (true≢false (sym h))
-link_is Fea h = absurd (true≢false (sym h))
-link_is Lnk h = refl
 
 -- the first that passes
 
@@ -227,18 +215,18 @@ module _ (s : Classes) (sheet : SheetData) (p : PlanData) (is : IsPlanOf s sheet
 
   shape : (rs : List Record) → list_all is_in_shape rs ≡ true → (k : ℕ) (r : Record) → slice_get rs k ≡ Some r → is_in_shape r ≡ true
   shape [] all k r h = absurd (none-some r h)
-  shape (q ∷ rs) all zero r h = subst (λ x. is_in_shape x ≡ true) (same_Some q r h) (both_true _ _ all).0
-  shape (q ∷ rs) all (suc k) r h = shape rs (both_true _ _ all).1 k r h
+  shape (q ∷ rs) all zero r h = subst (λ x. is_in_shape x ≡ true) (same_Some q r h) (and_parts _ _ all).0
+  shape (q ∷ rs) all (suc k) r h = shape rs (and_parts _ _ all).1 k r h
 
   points : (k : ℕ) → IsPlace p k → may_have_points (record_at p k).kind (length (record_at p k).points) ≡ true
   points k h =
       let at = stated k h in
-      rw (at.2.kind, at.2.points) (both_true _ _ (shape sheet.list whole.shape k at.0 at.1)).0
+      rw (at.2.kind, at.2.points) (and_parts _ _ (shape sheet.list whole.shape k at.0 at.1)).0
 
   ends : (k : ℕ) → IsPlace p k → may_have_ends (record_at p k).kind (length (record_at p k).ends) ≡ true
   ends k h =
       let at = stated k h in
-      rw (at.2.kind, sym (zip_length (StatesPlanEnd sheet.list) at.0.ends (record_at p k).ends at.2.ends)) (both_true _ _ (shape sheet.list whole.shape k at.0 at.1)).1
+      rw (at.2.kind, sym (zip_length (StatesPlanEnd sheet.list) at.0.ends (record_at p k).ends at.2.ends)) (and_parts _ _ (shape sheet.list whole.shape k at.0 at.1)).1
 
   module _ (hold : IsUnbroken (BreaksReferenceRule s sheet.list)) where
     -- an end that names a link names nothing

@@ -1,10 +1,12 @@
 -- The records of a sheet, one on.
-use Rattle.std.proofs.Common.{◌≡◌, ◌≢◌, ℕ, zero, suc, ◌+◌, ◌-◌, ◌<◌, ◌≤◌, ◌⊎◌, inl, inr, Bool, true, false, cond, not, ◌&&◌, is_some, is_none, List, [], ◌∷◌, Option, Some, None, nat_eq, slice_get, refl, sym, ap, ◌∙◌, subst, arith, Any, true≢false, eqb-true, eq-eqb}
+use Rattle.std.proofs.Common.{◌≡◌, ℕ, zero, suc, ◌+◌, ◌-◌, ◌<◌, ◌≤◌, ◌⊎◌, inl, inr, Bool, true, false, cond, not, ◌&&◌, is_some, is_none, List, [], ◌∷◌, Option, Some, None, nat_eq, slice_get, refl, sym, ap, ◌∙◌, subst, arith, Any, true≢false, eqb-true, eq-eqb}
 use Rattle.std.specs.List.{AllZip}
-use Rattle.std.proofs.lemmas.Bool.{cases_lt}
+use Rattle.std.proofs.lemmas.Bool.{cases_lt, and_parts}
+use Rattle.std.proofs.lemmas.Option.{same_Some}
 use Rattle.edi_line.specs.Refusal.{BreaksTest, IsLeastBroken}
 use Rattle.edi_line.specs.inner.Refusal.{first_broken}
 use Rattle.edi_line.proofs.FirstBroken.{none_broken, first_is_least}
+use Rattle.edi_line.proofs.EachElement.{any_here, any_later}
 use Rattle.edi_record.specs.LinkEnds.{EndData}
 use Rattle.edi_record.specs.declared.record.Kind.TheVariants.{Par}
 use Rattle.edi_record.specs.declared.record.Record.{Record}
@@ -21,23 +23,11 @@ use Rattle.edi_plan.specs.inner.Resolving.{first_subset, role_of_link, reference
 use Rattle.edi_plan.specs.inner.SideTable.{side_at, side_after, link_join, is_taken, IsNoted}
 use Rattle.edi_plan.specs.inner.Targets.{IsTargetIfAny}
 use Rattle.edi_schema.specs.declared.by_role.ByRole.{ByRole}
+use Rattle.edi_schema.proofs.RoleTests.{not_plain, is_plain_not, one_role}
 use Rattle.edi_plan.specs.declared.sides.Join.{Join}
 use Rattle.edi_plan.specs.declared.targets.Target.{Target}
-use Rattle.edi_plan.proofs.OwnRules.{and_both, to_302, from_302, to_303, from_303, to_304, from_304, to_305, from_305, to_306, from_306}
-use Rattle.edi_plan.proofs.RuleLemmas.{any_here, any_later, names_join, join_names, link_has_role, role_is, any_two}
-
-same_some : {X : Type 0} {a b : X} → Some a ≡ Some b → a ≡ b
-same_some h = cc
-
-pub plain_is : (role : Role) → is_plain role ≡ false → role ≢ Plain
-plain_is role h e = true≢false (sym (ap is_plain e) ∙ h)
-
-pub is_plain_not : (role : Role) → role ≢ Plain → is_plain role ≡ false
-is_plain_not Initial h = refl
-is_plain_not Final h = refl
-is_plain_not Left h = refl
-is_plain_not Right h = refl
-is_plain_not Plain h = absurd (h refl)
+use Rattle.edi_plan.proofs.OwnRules.{to_302, from_302, to_303, from_303, to_304, from_304, to_305, from_305, to_306, from_306}
+use Rattle.edi_plan.proofs.RuleLemmas.{names_join, join_names, link_has_role, role_is, any_two}
 
 abbrev of_rank : ℕ → Role
 of_rank zero = Initial
@@ -52,9 +42,6 @@ rank_back Final = refl
 rank_back Left = refl
 rank_back Right = refl
 rank_back Plain = refl
-
-pub one_role : (a b : Role) → role_rank a ≡ role_rank b → a ≡ b
-one_role a b h = rank_back a ∙ (ap of_rank h ∙ sym (rank_back b))
 
 module _ (s : Classes) (list : List Record) (place : ℕ) (r : Record) (here : slice_get list place ≡ Some r) (own : List (Option Target)) (aimed : AllZip (IsTargetIfAny list) r.ends own)
     (table : List (ByRole (Option ℕ))) (before : IsDone s list place table) where
@@ -78,7 +65,7 @@ module _ (s : Classes) (list : List Record) (place : ℕ) (r : Record) (here : s
   one_arc q o a x b h d any = go d.ends
     where
       arc : Names s list d.to_arc b Par → b ≡ a
-      arc names = same_some (sym names.1 ∙ d.arc.1)
+      arc names = same_Some _ _ (sym names.1 ∙ d.arc.1)
 
       kind_other : (o : Role) → is_plain o ≡ false → Par ≡ beside o → ⊥
       kind_other Initial h e = cc
@@ -89,8 +76,8 @@ module _ (s : Classes) (list : List Record) (place : ℕ) (r : Record) (here : s
 
       other : Names s list d.to_other b Par → b ≡ a
       other names =
-          let places : b ≡ x = same_some (sym names.1 ∙ d.other.1) in
-          let records : names.0 ≡ d.other.0 = same_some (sym names.2 ∙ (ap (slice_get list) places ∙ d.other.2)) in
+          let places : b ≡ x = same_Some _ _ (sym names.1 ∙ d.other.1) in
+          let records : names.0 ≡ d.other.0 = same_Some _ _ (sym names.2 ∙ (ap (slice_get list) places ∙ d.other.2)) in
           absurd (kind_other o h (sym names.3 ∙ (ap (λ (t : Record). t.kind) records ∙ d.other.3)))
 
       by : Names s list d.to_arc b Par ⊎ Names s list d.to_other b Par → b ≡ a
@@ -141,7 +128,7 @@ module _ (s : Classes) (list : List Record) (place : ℕ) (r : Record) (here : s
                 (let less = d.before in omega (arith, less)),
                 link_at d.at d.link role d.is_link,
                 is_at,
-                plain_is role kind,
+                not_plain role kind,
                 d.is_link.has_role,
                 link_has_role s list r kind,
                 arc_there d.link role j.arc x d.joins,
@@ -219,7 +206,7 @@ module _ (s : Classes) (list : List Record) (place : ℕ) (r : Record) (here : s
   step_joined none q o d = go (link_join o own) refl
     where
       same : q ≡ r
-      same = same_some (sym d.here ∙ here)
+      same = same_Some _ _ (sym d.here ∙ here)
 
       has : IsLinkOfRole s list r o
       has = subst (λ t. IsLinkOfRole s list t o) same d.has_role
@@ -234,7 +221,7 @@ module _ (s : Classes) (list : List Record) (place : ℕ) (r : Record) (here : s
   -- this record joins nothing else
   here_joins : (q : Record) (o : Role) (a x : ℕ) → IsLinkAt s list place q o → JoinsIn s list q o a x → (role ≡ o) × (link_join role own ≡ Some (record { arc = a; other = x }))
   here_joins q o a x d joins =
-      let same : q ≡ r = same_some (sym d.here ∙ here) in
+      let same : q ≡ r = same_Some _ _ (sym d.here ∙ here) in
       let is : role ≡ o = role_is s list r o (subst (λ t. IsLinkOfRole s list t o) same d.has_role) in
       (is, ap (λ p. link_join p own) is ∙ names_join s list r o own a x aimed d.not_plain (subst (λ t. JoinsIn s list t o a x) same joins))
 
@@ -270,7 +257,7 @@ module _ (s : Classes) (list : List Record) (place : ℕ) (r : Record) (here : s
         where
           by : (b : Bool) → same_role o role && nat_eq a j.arc ≡ b → IsJoinIfAny s list (suc place) a o (cond b (Some j.other) (side_at table a o))
           by true t =
-              let both = and_both _ _ t in
+              let both = and_parts _ _ t in
               let arcs : a ≡ j.arc = eqb-true a j.arc both.1 in
               let roles : o ≡ role = one_role o role (eqb-true (role_rank o) (role_rank role) both.0) in
               subst (λ n. JoinsBefore s list (suc place) n o j.other) (sym arcs) (subst (λ p. JoinsBefore s list (suc place) j.arc p j.other) (sym roles) (this_join j e))
@@ -278,7 +265,7 @@ module _ (s : Classes) (list : List Record) (place : ℕ) (r : Record) (here : s
               old_kept a o h
               (λ x d.
               let same : Some (record { arc = a; other = x }) ≡ Some j = sym d.1 ∙ e in
-              let arcs : a ≡ j.arc = ap (λ (k : Join). k.arc) (same_some same) in
+              let arcs : a ≡ j.arc = ap (λ (k : Join). k.arc) (same_Some _ _ same) in
               let yes : same_role o role && nat_eq a j.arc ≡ true = (λ i. same_role o (d.0 i) && nat_eq a (sym arcs i)) ∙ ((λ i. eq-eqb (role_rank o) (role_rank o) refl i && nat_eq a a) ∙ eq-eqb a a refl) in
               true≢false (sym yes ∙ t))
               (side_at table a o) (before.noted a o h)

@@ -1,7 +1,7 @@
 -- The links of a side, in the plan and among the records.
 use Rattle.std.proofs.Common.{◌≡◌, ◌≢◌, ◌∙◌, ◌+◌, ◌-◌, ◌<◌, ℕ, true, add-one, List, [], ◌∷◌, zero, suc, take, get_or, Option, Some, sym, ap, subst, arith, slice_get, Any}
 use Rattle.std.specs.List.{AllZip}
-use Rattle.std.proofs.lemmas.Option.{get_or_from_slice_get, slice_get-get_or, slice_get_within}
+use Rattle.std.proofs.lemmas.Option.{get_or_from_slice_get, slice_get-get_or, slice_get_within, same_Some}
 use Rattle.edi_record.specs.LinkEnds.{EndData}
 use Rattle.edi_record.specs.declared.record.Kind.TheVariants.{Par}
 use Rattle.edi_record.specs.declared.record.Record.{Record}
@@ -25,9 +25,6 @@ use Rattle.edi_plan.proofs.FindingLemmas.{arc_named, named_arc}
 use Rattle.edi_plan.proofs.Leasts.{least_as}
 use Rattle.edi_plan.proofs.OwnRules.{one_record}
 use Rattle.edi_plan.proofs.RuleLemmas.{any_zip, role_is, zip_any}
-
-same_some : {X : Type 0} {a b : X} → Some a ≡ Some b → a ≡ b
-same_some h = cc
 
 taken_at : {X : Type 0} (xs : List X) (n k : ℕ) (x : X) → slice_get (take n xs) k ≡ Some x → (k < n) × (slice_get xs k ≡ Some x)
 taken_at xs zero k x at = absurd cc
@@ -56,7 +53,7 @@ module _ (s : Classes) (list : List Record) (e : EndData) (t : Option Target) (i
   shared_arc : (a : ℕ) → Names s list e a Par → Any (λ d. Names s list d a Par) ds → ends_at_place fs t ≡ true
   shared_arc a named any =
       any_zip (StatesPlanEnd list) (λ d. Names s list d a Par) (λ (f : PlanEnd). is_arc_at f.target t)
-      (λ d f state other. ap (λ n. is_arc_at n t) (same_some (sym state.target ∙ other.1)) ∙ named_arc s list a e t is named) ds fs states any
+      (λ d f state other. ap (λ n. is_arc_at n t) (same_Some _ _ (sym state.target ∙ other.1)) ∙ named_arc s list a e t is named) ds fs states any
 
 module _ (s : Classes) (list : List Record) (place : ℕ) (r : Record) (here : slice_get list place ≡ Some r) (own : List (Option Target)) (aimed : AllZip (IsTargetIfAny list) r.ends own)
     (planned : List PlanRecord) (stated : AllZip (StatesPlanRecord s list) (take place list) planned) (role : Role) (proper : role ≢ Plain) (is : IsLinkOfRole s list r role) where
@@ -71,8 +68,8 @@ module _ (s : Classes) (list : List Record) (place : ℕ) (r : Record) (here : s
 
   pub side_of : (k : ℕ) → SharesSide s list place k → IsOfSideAt planned role own k
   side_of k h =
-      let here_is : h.1 ≡ r = same_some (sym h.5 ∙ here) in
-      let one : h.2 ≡ role = same_some (sym h.8.1 ∙ (ap (λ (x : Record). role_named s x.scp) here_is ∙ is.1)) in
+      let here_is : h.1 ≡ r = same_Some _ _ (sym h.5 ∙ here) in
+      let one : h.2 ≡ role = same_Some _ _ (sym h.8.1 ∙ (ap (λ (x : Record). role_named s x.scp) here_is ∙ is.1)) in
       let p = get_or planned k blank in
       let there = zip_back (StatesPlanRecord s list) (take place list) planned stated k h.0 blank (take_at_place list place k h.0 h.3 h.4) in
       let states = there.1 in (
@@ -80,7 +77,7 @@ module _ (s : Classes) (list : List Record) (place : ℕ) (r : Record) (here : s
         slice_get-get_or planned k blank there.0,
         (
           states.kind ∙ h.7.0,
-          same_some (sym states.role ∙ (h.7.1 ∙ ap Some one)),
+          same_Some _ _ (sym states.role ∙ (h.7.1 ∙ ap Some one)),
           any_zip (IsTargetIfAny list) (λ e. Names s list e h.9.0 Par) (ends_at_place p.ends) (λ e t aim named. shared_arc s list e t aim h.0.ends p.ends states.ends h.9.0 named h.9.1) r.ends own aimed
               (subst (λ (x : Record). Any (λ e. Names s list e h.9.0 Par) x.ends) here_is h.9.2),
         ),

@@ -2,10 +2,10 @@
 use Rattle.std.proofs.Common.{◌≡◌, ◌↔◌, add-one, ℕ, zero, suc, ◌+◌, ◌-◌, ◌<◌, ◌≤◌, ◌⊎◌, inl, inr, Bool, true, false, cond, not, ◌&&◌, ◌||◌, nat_eq, is_some, is_none, List, [], ◌∷◌, ◌++◌, length, get_or, Option, Some, None, option_map, unwrap_or, slice_get, replicate, take, refl, sym, ap, ◌∙◌, subst, arith, IsTrue, Any, true≢false, eqb-true, eq-eqb}
 use Rattle.std.specs.List.{AllZip, list_any, position_or_len}
 use Rattle.std.specs.Map.{lookup, keys_of}
-use Rattle.std.proofs.lemmas.Bool.{cases_lt, lt-ltb}
+use Rattle.std.proofs.lemmas.Bool.{cases_lt, lt-ltb, and_parts}
 use Rattle.std.proofs.lemmas.List.{length-replicate}
 use Rattle.std.proofs.lemmas.List.Folds.{list_any_more}
-use Rattle.std.proofs.lemmas.Option.{slice_get-get_or, slice_get_within}
+use Rattle.std.proofs.lemmas.Option.{slice_get-get_or, slice_get_within, same_Some}
 use Rattle.edi_record.specs.LinkEnds.{EndData}
 use Rattle.edi_record.specs.declared.record.Kind.{Kind}
 use Rattle.edi_record.specs.declared.record.Kind.TheVariants.{Par}
@@ -19,6 +19,7 @@ use Rattle.edi_schema.specs.declared.by_role.ByRole.{ByRole}
 use Rattle.edi_schema.specs.declared.role.Role.{Role}
 use Rattle.edi_schema.specs.declared.role.Role.TheVariants.{Initial, Final, Left, Right, Plain}
 use Rattle.edi_record.specs.Records.{is_link}
+use Rattle.edi_schema.proofs.RoleTests.{not_plain, is_plain_not, one_role}
 use Rattle.edi_plan.specs.Joined.{beside}
 use Rattle.edi_plan.specs.Plans.{same_kind}
 use Rattle.edi_plan.specs.ReferenceRules.{Names, IsLinkOfRole, RepeatsRecordName, RepeatsSide}
@@ -30,13 +31,9 @@ use Rattle.edi_plan.specs.inner.SideTable.{join_in, link_join, side_at, HaveEntr
 use Rattle.edi_plan.specs.inner.Targets.{IsTargetIfAny}
 use Rattle.edi_plan.specs.declared.link_findings.LinkFindings.{LinkFindings}
 use Rattle.edi_plan.specs.declared.targets.Target.{Target}
-use Rattle.edi_plan.proofs.DoneLemmas.{plain_is, is_plain_not, one_role}
 use Rattle.edi_plan.proofs.NewTable.{new_entries, nothing_of}
-use Rattle.edi_plan.proofs.OwnRules.{is_at, one_record, and_both, to_305, from_305, to_306, from_306}
+use Rattle.edi_plan.proofs.OwnRules.{is_at, one_record, to_305, from_305, to_306, from_306}
 use Rattle.edi_plan.proofs.RuleLemmas.{any_zip, zip_any, any_map, target_names, names_target, kind_same, link_has_role, role_is}
-
-same_some : {X : Type 0} {a b : X} → Some a ≡ Some b → a ≡ b
-same_some h = cc
 
 -- ---- one element more
 
@@ -44,7 +41,7 @@ pub each_pushed : {X : Type 0} (P : ℕ → X → Type 0) (xs : List X) (x : X) 
 each_pushed {X} P xs x each last k y at = go P xs k each last at
   where
     go : (P : ℕ → X → Type 0) (xs : List X) (k : ℕ) → EachAt P xs → P (length xs) x → slice_get (xs ++ x ∷ []) k ≡ Some y → P k y
-    go P [] zero each last at = subst (P 0) (same_some at) last
+    go P [] zero each last at = subst (P 0) (same_Some _ _ at) last
     go P [] (suc k) each last at = absurd cc
     go P (z ∷ zs) zero each last at = each 0 y at
     go P (z ∷ zs) (suc k) each last at = go (λ n. P (suc n)) zs k (λ j w h. each (suc j) w h) last at
@@ -115,10 +112,10 @@ role_of_none s r none = go (is_link r.kind) (role_named s r.scp) none
 -- ---- 306 at one record
 
 pub wrong_some : (role : Role) (kind : Kind) (ts : List (Option Target)) → cond (is_plain role) None (Some (beside role)) ≡ Some kind → is_none (join_in kind ts) ≡ (not (is_plain role) && is_none (link_join role ts))
-wrong_some Initial kind ts h = ap (λ k. is_none (join_in k ts)) (sym (same_some h))
-wrong_some Final kind ts h = ap (λ k. is_none (join_in k ts)) (sym (same_some h))
-wrong_some Left kind ts h = ap (λ k. is_none (join_in k ts)) (sym (same_some h))
-wrong_some Right kind ts h = ap (λ k. is_none (join_in k ts)) (sym (same_some h))
+wrong_some Initial kind ts h = ap (λ k. is_none (join_in k ts)) (sym (same_Some _ _ h))
+wrong_some Final kind ts h = ap (λ k. is_none (join_in k ts)) (sym (same_Some _ _ h))
+wrong_some Left kind ts h = ap (λ k. is_none (join_in k ts)) (sym (same_Some _ _ h))
+wrong_some Right kind ts h = ap (λ k. is_none (join_in k ts)) (sym (same_Some _ _ h))
 wrong_some Plain kind ts h = absurd cc
 
 pub wrong_none : (role : Role) (ts : List (Option Target)) → cond (is_plain role) None (Some (beside role)) ≡ None → false ≡ (not (is_plain role) && is_none (link_join role ts))
@@ -147,7 +144,7 @@ arc_within table None a all is = absurd cc
 arc_within table (Some t) a all is = go (same_kind t.kind Par) is
   where
     go : (b : Bool) → cond b (Some t.place) None ≡ Some a → a < length table
-    go true is = subst (λ n. n < length table) (same_some is) all.0
+    go true is = subst (λ n. n < length table) (same_Some _ _ is) all.0
     go false is = absurd cc
 
 pub arc_sided : (table : List (ByRole (Option ℕ))) (role : Role) (t : Option Target) (a : ℕ) → arc_place t ≡ Some a → is_sided table role t ≡ is_some (side_at table a role)
@@ -155,7 +152,7 @@ arc_sided table role None a is = absurd cc
 arc_sided table role (Some t) a is = go (same_kind t.kind Par) is
   where
     go : (b : Bool) → cond b (Some t.place) None ≡ Some a → cond b (is_some (side_at table t.place role)) false ≡ is_some (side_at table a role)
-    go true is = ap (λ n. is_some (side_at table n role)) (same_some is)
+    go true is = ap (λ n. is_some (side_at table n role)) (same_Some _ _ is)
     go false is = absurd cc
 
 pub none_sided : (table : List (ByRole (Option ℕ))) (role : Role) (t : Option Target) → arc_place t ≡ None → is_sided table role t ≡ false
@@ -171,7 +168,7 @@ arc_is_at None a b is = absurd cc
 arc_is_at (Some t) a b is = go (same_kind t.kind Par) is
   where
     go : (c : Bool) → cond c (Some t.place) None ≡ Some b → cond c (nat_eq a t.place) false ≡ nat_eq a b
-    go true is = ap (λ n. nat_eq a n) (same_some is)
+    go true is = ap (λ n. nat_eq a n) (same_Some _ _ is)
     go false is = absurd cc
 
 pub none_is_at : (t : Option Target) (a : ℕ) → arc_place t ≡ None → is_arc_at a t ≡ false
@@ -266,7 +263,7 @@ module _ (s : Classes) (list : List Record) (n : ℕ) (r : Record) (here : slice
         omega (arith, before.2),
         is_at s list before.0 before.1 before.3,
         is_at s list n r here,
-        plain_is role plain,
+        not_plain role plain,
         before.4,
         link_has_role s list r plain,
         before.5,
@@ -307,7 +304,7 @@ module _ (s : Classes) (list : List Record) (n : ℕ) (r : Record) (here : slice
           go : (b : Bool) → is_some (side_at table a o) ≡ b → b || (same_role o role && list_any (is_arc_at a) own) ≡ true → NamesArcBefore s list (suc n) a o
           go true t e = more a o ((sided.each a o plain).0 t)
           go false t e =
-              let both = and_both (same_role o role) (list_any (is_arc_at a) own) e in
+              let both = and_parts (same_role o role) (list_any (is_arc_at a) own) e in
               let same : o ≡ role = one_role o role (eqb-true (role_rank o) (role_rank role) both.0) in (
                 n,
                 r,
@@ -328,7 +325,7 @@ module _ (s : Classes) (list : List Record) (n : ℕ) (r : Record) (here : slice
           go (inl less) = ap (λ b. b || (same_role o role && list_any (is_arc_at a) own)) ((sided.each a o plain).1 (d.0, d.1, less, d.3, d.4, d.5))
           go (inr past) =
               let e : d.0 ≡ n = omega (arith, d.2, past) in
-              let q_is : d.1 ≡ r = same_some (sym (subst (λ k. slice_get list k ≡ Some d.1) e d.3) ∙ here) in
+              let q_is : d.1 ≡ r = same_Some _ _ (sym (subst (λ k. slice_get list k ≡ Some d.1) e d.3) ∙ here) in
               let same : role ≡ o = role_is s list r o (subst (λ t. IsLinkOfRole s list t o) q_is d.4) in
               let any : list_any (is_arc_at a) own ≡ true = any_zip (IsTargetIfAny list) (λ e. Names s list e a Par) (is_arc_at a) (named_arc s list a) r.ends own aimed
               (subst (λ (t : Record). Any (λ e. Names s list e a Par) t.ends) q_is d.5) in

@@ -1,12 +1,13 @@
 -- Records that are found by their names.
 use Rattle.std.proofs.Common.{◌≡◌, ℕ, zero, suc, add-one, ◌+◌, ◌++◌, ◌<◌, ◌≤◌, Bool, true, false, not, ◌&&◌, ◌==◌, List, [], ◌∷◌, length, drop, slice_index_or, Option, None, Some, is_some, if◌then◌else◌, slice_get, refl, sym, ap, ◌∙◌, subst, arith}
-use Rattle.std.proofs.lemmas.Option.{get_or_from_slice_get}
+use Rattle.std.proofs.lemmas.Option.{get_or_from_slice_get, same_Some}
 use Rattle.edi_record.specs.Records.{is_link}
 use Rattle.edi_record.specs.Shapes.{kind_code, stated_at}
 use Rattle.edi_record.specs.declared.name.Name.{Name}
 use Rattle.edi_record.specs.declared.record.Kind.{Kind}
 use Rattle.edi_record.specs.declared.record.Kind.TheVariants.{Pno, Par, Pfe, Fea, Lnk}
 use Rattle.edi_record.specs.declared.record.Record.{Record}
+use Rattle.edi_record.proofs.KindCodes.{kind_from_code}
 use Rattle.edi_schema.proofs.Names.{same_name}
 use Rattle.edi_plan.specs.PlanOf.{own_name, place_named}
 use Rattle.edi_plan.specs.inner.Hints.{is_named, is_named_at, is_held, first_held, tag_of, found, HasAll, HasTabled}
@@ -15,7 +16,7 @@ use Rattle.edi_plan.specs.inner.Slots.{slot_place, slot_tag}
 use Rattle.edi_plan.specs.inner.Names.{RepeatsNameAt, is_tabled}
 use Rattle.edi_plan.specs.inner.Targets.{HasNameAt}
 use Rattle.edi_plan.specs.declared.name_slots.NameHints.{NameHints}
-use Rattle.edi_plan.proofs.NameLemmas.{coded_kind, has_name}
+use Rattle.edi_plan.proofs.NameLemmas.{has_name}
 use Rattle.edi_plan.proofs.TargetLemmas.{only_named}
 
 -- links are of one type
@@ -29,9 +30,6 @@ link_kind Pno l h i = cc
 link_kind Par l h i = cc
 link_kind Pfe l h i = cc
 link_kind Fea l h i = cc
-
-same_some : {X : Type 0} {a b : X} → Some a ≡ Some b → a ≡ b
-same_some h = cc
 
 module _ (list : List Record) (name : Name) where
   pub named_there : (place : ℕ) → is_named_at list name place ≡ true → HasNameAt list name place
@@ -54,7 +52,7 @@ module _ (list : List Record) (name : Name) where
   first_there (p ∷ ps) place h = go (is_held list name p) refl h (first_there ps place)
     where
       go : (b : Bool) → is_held list name p ≡ b → (if b then Some (slot_place p) else first_held list name ps) ≡ Some place → (first_held list name ps ≡ Some place → HasNameAt list name place) → HasNameAt list name place
-      go true t e more = subst (HasNameAt list name) (same_some e) (named_there (slot_place p) (held_named p t))
+      go true t e more = subst (HasNameAt list name) (same_Some _ _ e) (named_there (slot_place p) (held_named p t))
       go false t e more = more e
 
   -- what is left of the slots goes on with the next of them
@@ -82,7 +80,7 @@ module _ (list : List Record) (hints : NameHints) (differ : LinksDiffer list) (a
   no_repeats k d = go (is_link d.2.kind) refl
     where
       kind : d.1.kind ≡ d.2.kind
-      kind = coded_kind d.1.kind d.2.kind (ap (λ (n : Name). n.rty) d.6)
+      kind = kind_from_code d.1.kind d.2.kind (ap (λ (n : Name). n.rty) d.6)
 
       rid : d.1.rid ≡ d.2.rid
       rid = ap (λ (n : Name). n.rid) d.6
@@ -93,7 +91,7 @@ module _ (list : List Record) (hints : NameHints) (differ : LinksDiffer list) (a
           let one : found list hints d.1.kind d.1.rid ≡ Some d.0 = all d.0 d.1 d.4 (ap is_link kind ∙ other) in
           let two : found list hints d.2.kind d.2.rid ≡ Some k = all k d.2 d.5 other in
           let both : found list hints d.1.kind d.1.rid ≡ found list hints d.2.kind d.2.rid = λ i. found list hints (kind i) (rid i) in
-          let same : d.0 ≡ k = same_some (sym one ∙ (both ∙ two)) in
+          let same : d.0 ≡ k = same_Some _ _ (sym one ∙ (both ∙ two)) in
           absurd (omega (arith, d.3, same))
 
   pub found_named : (k : Kind) (rid : List ℕ) → is_link k ≡ false → found list hints k rid ≡ place_named list (record { rty = kind_code k; rid = rid })
@@ -106,7 +104,7 @@ module _ (list : List Record) (hints : NameHints) (differ : LinksDiffer list) (a
       none e None at = e
       none e (Some place) at =
           let there = has_name list name place at in
-          let kinds : there.0.kind ≡ k = coded_kind there.0.kind k (ap (λ (n : Name). n.rty) there.2) in
+          let kinds : there.0.kind ≡ k = kind_from_code there.0.kind k (ap (λ (n : Name). n.rty) there.2) in
           let rids : there.0.rid ≡ rid = ap (λ (n : Name). n.rid) there.2 in
           let here : found list hints there.0.kind there.0.rid ≡ Some place = all place there.0 there.1 (ap is_link kinds ∙ no_link) in
           let both : found list hints there.0.kind there.0.rid ≡ found list hints k rid = λ i. found list hints (kinds i) (rids i) in
@@ -123,7 +121,7 @@ module _ (list : List Record) (n : ℕ) (r : Record) (kind : Kind) (rid : List �
   named_it = named_so ∙ ap own_name (get_or_from_slice_get list n r _ there)
 
   pub kind_there : kind ≡ r.kind
-  kind_there = coded_kind kind r.kind (ap (λ (x : Name). x.rty) named_it)
+  kind_there = kind_from_code kind r.kind (ap (λ (x : Name). x.rty) named_it)
 
   pub rid_there : rid ≡ r.rid
   rid_there = ap (λ (x : Name). x.rid) named_it
@@ -141,7 +139,7 @@ links_found_differ : (list : List Record) (hints : NameHints) → HasTabled fals
 links_found_differ list hints has j k q r less at later link too same =
     let kinds : q.kind ≡ r.kind = link_kind q.kind r.kind link too in
     let both : found list hints q.kind q.rid ≡ found list hints r.kind r.rid = λ i. found list hints (kinds i) (same i) in
-    let one : j ≡ k = same_some (sym (has j q at refl) ∙ (both ∙ has k r later refl)) in
+    let one : j ≡ k = same_Some _ _ (sym (has j q at refl) ∙ (both ∙ has k r later refl)) in
     absurd (omega (arith, less, one))
 
 pub finds_all : (rise : Bool) (list : List Record) (hints : NameHints) → (rise ≡ true → LinksDiffer list) → HasTabled rise list hints → LinksDiffer list × HasAll list hints

@@ -2,7 +2,9 @@
 use Rattle.std.proofs.Common.{◌≡◌, ℕ, suc, ◌-◌, ◌<◌, ◌⊎◌, inl, inr, Bool, true, false, List, [], ◌∷◌, length, map, Some, slice_get, refl, sym, ap, ◌∙◌, subst, arith, true≢false, eqb-true, eq-eqb, Any}
 use Rattle.std.specs.List.{AllZip}
 use Rattle.std.proofs.lemmas.Bool.{cases_order}
+use Rattle.std.proofs.lemmas.Option.{same_Some}
 use Rattle.edi_line.specs.Refusal.{IsUnbroken}
+use Rattle.edi_line.proofs.EachElement.{any_here, any_later}
 use Rattle.edi_record.specs.LinkEnds.{EndData}
 use Rattle.edi_record.specs.declared.record.Kind.{Kind}
 use Rattle.edi_record.specs.declared.record.Kind.TheVariants.{Par}
@@ -22,10 +24,6 @@ use Rattle.edi_plan.specs.declared.record.PlanEnd.{PlanEnd}
 use Rattle.edi_plan.proofs.Built.{zip_at, zip_back}
 use Rattle.edi_plan.proofs.NameLemmas.{has_name}
 use Rattle.edi_plan.proofs.PlaceLemmas.{one_kind}
-use Rattle.edi_plan.proofs.RuleLemmas.{any_here, any_later}
-
-same_some : {X : Type 0} {a b : X} → Some a ≡ Some b → a ≡ b
-same_some h = cc
 
 plain_not : (role : Role) → is_plain role ≡ false → role ≡ Plain → ⊥
 plain_not role h e = true≢false (sym (ap is_plain e) ∙ h)
@@ -59,8 +57,8 @@ module _ (s : Classes) (sheet : SheetData) (p : PlanData) (is : IsPlanOf s sheet
       go (p ∷ []) all = absurd all.1
       go (p ∷ q ∷ t ∷ ts) all = absurd all.1.1
       go (p ∷ q ∷ []) all =
-          let m = same_some (sym all.0.target ∙ first.1) in
-          let n = same_some (sym all.1.0.target ∙ second.1) in
+          let m = same_Some _ _ (sym all.0.target ∙ first.1) in
+          let n = same_Some _ _ (sym all.1.0.target ∙ second.1) in
           λ i. m i ∷ n i ∷ []
 
   -- a link of the plan joins if its record does, and that can be seen in the plan

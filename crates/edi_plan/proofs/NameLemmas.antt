@@ -4,10 +4,9 @@ use Rattle.std.specs.List.{position_or_len}
 use Rattle.std.specs.Option.{option_or}
 use Rattle.std.specs.Map.{lookup}
 use Rattle.std.specs.Str.{bytes_eq}
-use Rattle.std.proofs.lemmas.Bool.{cases_lt, lt-ltb, le-ltb}
-use Rattle.std.proofs.lemmas.Option.{slice_get_within}
+use Rattle.std.proofs.lemmas.Bool.{cases_lt, lt-ltb, le-ltb, false_from_ne_true}
+use Rattle.std.proofs.lemmas.Option.{slice_get_within, same_Some}
 use Rattle.edi_record.specs.Shapes.{kind_code}
-use Rattle.edi_record.specs.inner.RecordRules.{kind_named}
 use Rattle.edi_record.specs.declared.name.Name.{Name}
 use Rattle.edi_record.specs.declared.record.Kind.{Kind}
 use Rattle.edi_record.specs.declared.record.Kind.TheVariants.{Pno, Par, Pfe, Fea, Lnk}
@@ -22,9 +21,6 @@ use Rattle.edi_plan.specs.PlanOf.{own_name, place_named}
 use Rattle.edi_plan.specs.declared.names.RecordNameRef.{RecordNameRef}
 use Rattle.edi_plan.specs.contracts.names.RecordNameRefPartialEq.TheImpl.{ghosts as names}
 use Rattle.edi_plan.proofs.Built.{position_some}
-
-same_some : {X : Type 0} {a b : X} → Some a ≡ Some b → a ≡ b
-same_some h = cc
 
 kind_apart : (a b : Kind) → kinds.eq a b ≡ bytes_eq (kind_code a) (kind_code b)
 kind_apart Pno Pno = refl
@@ -62,17 +58,6 @@ link_code Par = refl
 link_code Pfe = refl
 link_code Fea = refl
 link_code Lnk = refl
-
--- two types with one code are one
-pub coded_kind : (a b : Kind) → kind_code a ≡ kind_code b → a ≡ b
-coded_kind a b same = same_some (sym (kind_again a) ∙ (ap kind_named same ∙ kind_again b))
-  where
-    kind_again : (k : Kind) → kind_named (kind_code k) ≡ Some k
-    kind_again Pno = refl
-    kind_again Par = refl
-    kind_again Pfe = refl
-    kind_again Fea = refl
-    kind_again Lnk = refl
 
 pub coded_link : (a b : Kind) → kind_code a ≡ kind_code b → is_link a ≡ is_link b
 coded_link a b same = link_code a ∙ (ap (λ code. bytes_eq code (codes "LNK")) same ∙ sym (link_code b))
@@ -116,7 +101,7 @@ RepeatTo list n found = MatchOption found ((j : ℕ) → j < n → ¬ (RepeatsNa
 
 pub pol_is : {X : Type 0} (test : X → Bool) (xs : List X) (k : ℕ) (x : X) → slice_get xs k ≡ Some x → test x ≡ true → ((j : ℕ) (y : X) → j < k → slice_get xs j ≡ Some y → test y ≡ false) → position_or_len test xs ≡ k
 pol_is test [] k x h t before = let l = slice_get_within [] k x h in absurd (omega (arith, l))
-pol_is test (y ∷ ys) zero x h t before = let e : test y ≡ true = ap test (same_some h) ∙ t in rw e refl
+pol_is test (y ∷ ys) zero x h t before = let e : test y ≡ true = ap test (same_Some _ _ h) ∙ t in rw e refl
 pol_is test (y ∷ ys) (suc k) x h t before =
     let e : test y ≡ false = before 0 y (omega arith) refl in
     let more = pol_is test ys k x h t (λ j z less at. before (suc j) z (omega arith) at) in
@@ -129,23 +114,19 @@ pol_none test (y ∷ ys) none =
     let more = pol_none test ys (λ j z at. none (suc j) z at) in
     rw e (omega (arith, more))
 
-bool_false : (b : Bool) → (b ≡ true → ⊥) → b ≡ false
-bool_false true other = absurd (other refl)
-bool_false false other = refl
-
 module _ (list : List Record) (name : Name) where
   pub first_named : (k : ℕ) → IsFirstOf list name k → place_named list name ≡ Some k
   first_named k f =
       let at : position_or_len (λ r. is_name name (own_name r)) list ≡ k =
       pol_is (λ r. is_name name (own_name r)) list k f.there f.here (subst (λ n. is_name name n ≡ true) (sym f.is) (name_itself name))
-      (λ j q less here. bool_false _ (λ t. f.none_before j q less here (sym (same_name name (own_name q) t)))) in
+      (λ j q less here. false_from_ne_true _ (λ t. f.none_before j q less here (sym (same_name name (own_name q) t)))) in
       let within = slice_get_within list k f.there f.here in
       ap (λ n. cond (nat_lt n (length list)) (Some n) None) at ∙ ap (λ b. cond b (Some k) None) (lt-ltb k (length list) within)
 
   pub none_named : ((j : ℕ) (q : Record) → slice_get list j ≡ Some q → own_name q ≡ name → ⊥) → place_named list name ≡ None
   none_named none =
       let at : position_or_len (λ r. is_name name (own_name r)) list ≡ length list =
-      pol_none (λ r. is_name name (own_name r)) list (λ j q here. bool_false _ (λ t. none j q here (sym (same_name name (own_name q) t)))) in
+      pol_none (λ r. is_name name (own_name r)) list (λ j q here. false_from_ne_true _ (λ t. none j q here (sym (same_name name (own_name q) t)))) in
       ap (λ n. cond (nat_lt n (length list)) (Some n) None) at ∙ ap (λ b. cond b (Some (length list)) None) (le-ltb (length list) (length list) (omega arith))
 
   pub named_from : (found : Option ℕ) → FirstTo list (length list) name found → found ≡ place_named list name
@@ -174,7 +155,7 @@ module _ (list : List Record) (name : Name) where
 
 module _ (list : List Record) (n : ℕ) (r : Record) (here : slice_get list n ≡ Some r) where
   one_there : (q : Record) → slice_get list n ≡ Some q → q ≡ r
-  one_there q h = same_some (sym h ∙ here)
+  one_there q h = same_Some _ _ (sym h ∙ here)
 
   before_more : (name : Name) → ((j : ℕ) (q : Record) → j < n → slice_get list j ≡ Some q → own_name q ≡ name → ⊥) → (own_name r ≡ name → ⊥) → (j : ℕ) (q : Record) → j < n + 1 → slice_get list j ≡ Some q → own_name q ≡ name → ⊥
   before_more name none other j q less at is = go (cases_lt j n)

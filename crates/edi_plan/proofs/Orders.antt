@@ -1,11 +1,12 @@
 -- The orders of points, values, attributes and extras are total, and their ties are equal.
-use Rattle.std.proofs.Common.{◌≡◌, [], ◌∷◌, Some, None, refl, ap, ap₂, nat_cmp, int_cmp, Ordering, Less, Equal, Greater}
+use Rattle.std.proofs.Common.{◌≡◌, [], ◌∷◌, Some, None, refl, ap, ap₂, nat_cmp, int_cmp, Ordering, Less, Equal}
 use Rattle.std.specs.Cmp.{IsTotalOrder}
 use Rattle.std.specs.Cmp.Lexicographic.{slice_cmp, options_total}
 use Rattle.std.specs.Option.{option_cmp}
-use Rattle.std.specs.Ordering.{ordering_then, ordering_reverse}
+use Rattle.std.specs.Ordering.{ordering_reverse}
 use Rattle.std.proofs.lemmas.Cmp.{then_total, on_total, lists_total, nat_cmp_total, int_cmp_total}
 use Rattle.std.proofs.lemmas.Map.Lookups.{CmpEqualImpliesEq, exact_unsigned, exact_signed}
+use Rattle.edi_line.proofs.Truths.{first_tied, then_tied}
 use Rattle.edi_record.specs.Orders.{bytes_cmp, point_cmp, points_cmp, value_cmp, extra_cmp}
 use Rattle.edi_record.specs.declared.record.Point.{Point}
 use Rattle.edi_record.specs.declared.record.Extra.{Extra}
@@ -15,16 +16,6 @@ use Rattle.edi_plan.specs.declared.record.PlanAttribute.{PlanAttribute}
 use Rattle.edi_plan.specs.Orders.{attribute_cmp}
 
 -- ties of what is compared first and then
-
-pub first_tied : (o p : Ordering) → ordering_then o p ≡ Equal → o ≡ Equal
-first_tied Less p h = h
-first_tied Equal p h = refl
-first_tied Greater p h = h
-
-pub then_tied : (o p : Ordering) → ordering_then o p ≡ Equal → p ≡ Equal
-then_tied Less p h = cc
-then_tied Equal p h = h
-then_tied Greater p h = cc
 
 pub exact_lists : {X : Type 0} (cmp : X → X → Ordering) → CmpEqualImpliesEq cmp → CmpEqualImpliesEq (slice_cmp cmp)
 exact_lists cmp exact [] [] h = refl

@@ -1,6 +1,8 @@
 -- The rules 302 to 306 as tests of one record.
-use Rattle.std.proofs.Common.{◌≡◌, ◌≢◌, ℕ, suc, ◌-◌, ◌⊎◌, inl, inr, Bool, true, false, not, ◌&&◌, is_some, is_none, List, [], ◌∷◌, flat_map, Option, Some, None, option_map, slice_get, refl, sym, ap, ◌∙◌, subst, arith, Any, true≢false}
+use Rattle.std.proofs.Common.{◌≡◌, ◌≢◌, ℕ, suc, ◌-◌, ◌⊎◌, inl, inr, true, false, not, ◌&&◌, is_some, is_none, List, [], ◌∷◌, flat_map, Option, Some, None, option_map, slice_get, refl, sym, ap, ◌∙◌, subst, arith, Any, true≢false}
 use Rattle.std.specs.List.{AllZip, list_any}
+use Rattle.std.proofs.lemmas.Option.{same_Some}
+use Rattle.std.proofs.lemmas.Bool.{not-true, and_parts}
 use Rattle.edi_record.specs.LinkEnds.{EndData}
 use Rattle.edi_record.specs.declared.record.Kind.{Kind}
 use Rattle.edi_record.specs.declared.record.Kind.TheVariants.{Pno, Pfe, Lnk}
@@ -20,17 +22,6 @@ use Rattle.edi_plan.specs.declared.sides.Join.{Join}
 use Rattle.edi_plan.specs.declared.targets.Target.{Target}
 use Rattle.edi_plan.proofs.RuleLemmas.{none_is, any_true, true_any, zip_any, any_zip, lacks_true, true_lacks, nowhere, nowhere_true, elsewhere_true, true_elsewhere, names_join, join_names, link_has_role, role_is}
 
-same_some : {X : Type 0} {a b : X} → Some a ≡ Some b → a ≡ b
-same_some h = cc
-
-pub not_true : (b : Bool) → not b ≡ true → b ≡ false
-not_true false h = refl
-not_true true h = sym h
-
-pub and_both : (a b : Bool) → a && b ≡ true → (a ≡ true) × (b ≡ true)
-and_both true b h = (refl, h)
-and_both false b h = absurd (true≢false (sym h))
-
 module _ (s : Classes) (list : List Record) (place : ℕ) (r : Record) (here : slice_get list place ≡ Some r) where
   at_here : (k : ℕ) → suc k - 1 ≡ k
   at_here k = omega arith
@@ -39,7 +30,7 @@ module _ (s : Classes) (list : List Record) (place : ℕ) (r : Record) (here : s
   is_at = (omega arith, subst (λ k. slice_get list k ≡ Some r) (sym (at_here place)) here)
 
   pub one_record : (q : Record) → IsRecordAt s list (suc place) q → q ≡ r
-  one_record q at = same_some (sym (subst (λ k. slice_get list k ≡ Some q) (at_here place) at.1) ∙ here)
+  one_record q at = same_Some _ _ (sym (subst (λ k. slice_get list k ≡ Some q) (at_here place) at.1) ∙ here)
 
   pub to_302 : is_none (place_of s r.scp) ≡ true → HasUnknownClass s list (suc place)
   to_302 h = (r, is_at, none_is (place_of s r.scp) h)
@@ -95,8 +86,8 @@ module _ (s : Classes) (list : List Record) (place : ℕ) (r : Record) (here : s
 
   pub to_306 : not (is_plain role) && is_none (link_join role own) ≡ true → JoinsWrong s list (suc place)
   to_306 h =
-      let both = and_both (not (is_plain role)) (is_none (link_join role own)) h in
-      let kind = not_true (is_plain role) both.0 in
+      let both = and_parts (not (is_plain role)) (is_none (link_join role own)) h in
+      let kind = not-true (is_plain role) both.0 in
       go role kind (link_has_role s list r kind) (none_is (link_join role own) both.1)
     where
       go : (o : Role) → is_plain o ≡ false → IsLinkOfRole s list r o → link_join o own ≡ None → JoinsWrong s list (suc place)

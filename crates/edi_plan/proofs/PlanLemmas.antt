@@ -1,7 +1,7 @@
 -- The plan of records that break no rule, and the table of its arcs.
 use Rattle.std.proofs.Common.{◌≡◌, ℕ, suc, ◌-◌, ◌<◌, ◌≤◌, ◌⊎◌, inl, inr, List, [], ◌∷◌, length, map, Option, Some, None, slice_get, refl, sym, ap, ◌∙◌, subst, arith, false, true≢false}
 use Rattle.std.specs.List.{AllZip}
-use Rattle.std.proofs.lemmas.Option.{slice_get_within}
+use Rattle.std.proofs.lemmas.Option.{slice_get_within, same_Some}
 use Rattle.edi_line.specs.Refusal.{IsUnbroken}
 use Rattle.edi_record.specs.LinkEnds.{EndData}
 use Rattle.edi_record.specs.declared.record.Kind.{Kind}
@@ -23,9 +23,6 @@ use Rattle.edi_plan.specs.inner.SideTable.{AreSides, side_at}
 use Rattle.edi_plan.specs.declared.record.PlanEnd.{PlanEnd}
 use Rattle.edi_schema.specs.declared.by_role.ByRole.{ByRole}
 use Rattle.edi_plan.proofs.Built.{zip_at, zip_back, zip_length}
-
-same_some : {X : Type 0} {a b : X} → Some a ≡ Some b → a ≡ b
-same_some h = cc
 
 within : (s : Classes) (list : List Record) (rule at : ℕ) → BreaksReferenceRule s list rule at → (1 ≤ at) × (at ≤ length list)
 within s list rule at (repeats_name e d) = let l = slice_get_within list (at - 1) d.2 d.5.1 in (d.5.0, omega (arith, d.5.0, l))
@@ -60,8 +57,8 @@ module _ (s : Classes) (sheet : SheetData) (p : PlanData) (is : IsPlanOf s sheet
       go (p ∷ []) all = absurd all.1
       go (p ∷ q ∷ t ∷ ts) all = absurd all.1.1
       go (p ∷ q ∷ []) all =
-          let m = same_some (sym all.0.target ∙ first.1) in
-          let n = same_some (sym all.1.0.target ∙ second.1) in
+          let m = same_Some _ _ (sym all.0.target ∙ first.1) in
+          let n = same_Some _ _ (sym all.1.0.target ∙ second.1) in
           λ i. m i ∷ n i ∷ []
 
   pub join_side : (a : ℕ) (role : Role) (x : ℕ) → is_plain role ≡ false → JoinsBefore s sheet.list (length sheet.list) a role x → Side p a role x
@@ -72,7 +69,7 @@ module _ (s : Classes) (sheet : SheetData) (p : PlanData) (is : IsPlanOf s sheet
         link = d.at;
         there = link.0;
         is_link = link.1.kind ∙ d.is_link.has_role.0;
-        has_role = same_some (sym link.1.role ∙ d.is_link.has_role.1);
+        has_role = same_Some _ _ (sym link.1.role ∙ d.is_link.has_role.1);
         not_plain = λ e. true≢false (sym (ap is_plain e) ∙ h);
         arc_there = arc.0;
         is_arc = arc.1.kind ∙ d.joins.arc.3;

@@ -2,6 +2,7 @@
 use Rattle.std.proofs.Common.{◌≡◌, ℕ, suc, ◌-◌, ◌⊎◌, inl, inr, Bool, true, false, List, [], ◌∷◌, Option, Some, None, slice_get, refl, sym, ◌∙◌, subst, arith, Any, codes, ◌≢◌}
 use Rattle.std.specs.List.{AllZip}
 use Rattle.edi_line.specs.Refusal.{IsUnbroken}
+use Rattle.edi_line.proofs.EachElement.{any_here, any_later}
 use Rattle.edi_record.specs.LinkEnds.{EndData}
 use Rattle.edi_record.specs.Records.{IsValueOf}
 use Rattle.edi_record.specs.declared.record.Attribute.{Attribute}
@@ -22,7 +23,6 @@ use Rattle.edi_plan.specs.declared.record.PlanAttribute.{PlanAttribute}
 use Rattle.edi_plan.specs.declared.record.PlanEnd.{PlanEnd}
 use Rattle.edi_plan.specs.declared.record.PlanRecord.{PlanRecord}
 use Rattle.edi_plan.proofs.Resolved.{role_there}
-use Rattle.edi_plan.proofs.RuleLemmas.{any_here, any_later}
 
 -- ---- lists of what is found
 

@@ -3,7 +3,7 @@ use Rattle.std.proofs.Common.{◌≡◌, ℕ, ◌+◌, ◌<◌, ◌≤◌, ◌�
 use Rattle.std.specs.List.{AllZip}
 use Rattle.std.proofs.lemmas.Bool.{cases_order}
 use Rattle.std.proofs.lemmas.List.{length-drop, drop-drop}
-use Rattle.std.proofs.lemmas.Option.{slice_get_within}
+use Rattle.std.proofs.lemmas.Option.{slice_get_within, same_Some}
 use Rattle.std.proofs.Math.Seq.{drop-cons}
 use Rattle.edi_record.specs.LinkEnds.{EndData}
 use Rattle.edi_record.specs.declared.record.Record.{Record}
@@ -78,12 +78,9 @@ record_stated s list r ts p all d = record { kind = d.kind; class = d.class; rol
 
 -- where the next record stands
 
-same_some : {X : Type 0} {a b : X} → Some a ≡ Some b → a ≡ b
-same_some h = cc
-
 pub got_there : (list : List Record) (place : ℕ) (r : Record) → slice_get list place ≡ Some r → r ≡ get_or list place r
 got_there [] place r here = refl
-got_there (q ∷ qs) zero r here = sym (same_some here)
+got_there (q ∷ qs) zero r here = sym (same_Some _ _ here)
 got_there (q ∷ qs) (suc place) r here = got_there qs place r here
 
 pub cut_at : (list : List Record) (place : ℕ) (r : Record) → slice_get list place ≡ Some r → drop place list ≡ r ∷ drop (place + 1) list
@@ -107,7 +104,7 @@ one_left_less list rest new q place is next = ap (drop 1) (sym next ∙ is) ∙ 
 
 -- the first that is left
 pub first_is : (rest new : List Record) (q r : Record) → rest ≡ q ∷ new → slice_get rest 0 ≡ Some r → q ≡ r
-first_is rest new q r next first = same_some (ap (λ rs. slice_get rs 0) (sym next) ∙ first)
+first_is rest new q r next first = same_Some _ _ (ap (λ rs. slice_get rs 0) (sym next) ∙ first)
 
 -- whether the next record repeats a name
 

@@ -1,5 +1,5 @@
 -- The rules of references as tests of one record.
-use Rattle.std.proofs.Common.{◌≡◌, ◌≢◌, ℕ, zero, suc, ◌+◌, ◌-◌, ◌<◌, ◌≤◌, ◌⊎◌, inl, inr, Bool, true, false, cond, not, ◌&&◌, ◌||◌, is_some, is_none, List, [], ◌∷◌, ◌++◌, length, drop, flat_map, get_or, Option, Some, None, option_map, unwrap_or, slice_get, refl, sym, ap, ◌∙◌, subst, arith, codes, Any, true≢false}
+use Rattle.std.proofs.Common.{◌≡◌, ◌≢◌, ℕ, zero, suc, ◌+◌, ◌-◌, ◌<◌, ◌≤◌, ◌⊎◌, inl, inr, Bool, true, false, cond, not, ◌&&◌, ◌||◌, is_none, List, [], ◌∷◌, ◌++◌, length, drop, get_or, Option, Some, None, unwrap_or, slice_get, refl, sym, ap, ◌∙◌, subst, arith, codes, Any, true≢false}
 use Rattle.std.specs.List.{AllZip, list_any}
 use Rattle.std.specs.Str.{bytes_eq}
 use Rattle.std.proofs.lemmas.Slice.Eq.{bytes_eq-Decides}
@@ -7,6 +7,9 @@ use Rattle.std.proofs.lemmas.List.Folds.{Any-from_list_any}
 use Rattle.std.proofs.Math.Seq.{drop-cons}
 use Rattle.std.proofs.Math.ListN.{drop_of_length-le}
 use Rattle.std.proofs.lemmas.List.{append-nil}
+use Rattle.std.proofs.lemmas.Bool.{and_parts}
+use Rattle.std.proofs.lemmas.Option.{same_Some}
+use Rattle.edi_line.proofs.EachElement.{any_here, any_later, any_cases}
 use Rattle.edi_record.specs.declared.record.Attribute.{Attribute}
 use Rattle.edi_record.specs.LinkEnds.{EndData}
 use Rattle.edi_record.specs.declared.record.Kind.{Kind}
@@ -19,6 +22,7 @@ use Rattle.edi_schema.specs.declared.role.Role.TheVariants.{Initial, Final, Left
 use Rattle.edi_plan.specs.inner.Done.{JoinsIn}
 use Rattle.edi_plan.specs.Joined.{beside}
 use Rattle.edi_record.specs.Records.{is_link}
+use Rattle.edi_record.proofs.KindCodes.{link_is}
 use Rattle.edi_plan.specs.Plans.{same_kind, kind_rank}
 use Rattle.edi_plan.specs.ReferenceRules.{Names, IsLinkOfRole}
 use Rattle.edi_plan.specs.inner.Resolving.{AreGiven, GivesEnd, HasNoAttributeClass, lacks_class, is_elsewhere, role_of_link}
@@ -27,30 +31,13 @@ use Rattle.edi_plan.specs.inner.Targets.{Leads, IsTargetIfAny}
 use Rattle.edi_plan.specs.declared.record.PlanEnd.{PlanEnd}
 use Rattle.edi_plan.specs.declared.sides.Join.{Join}
 use Rattle.edi_plan.specs.declared.targets.Target.{Target}
-use Rattle.edi_plan.proofs.Built.{both_true, link_is}
 use Rattle.edi_plan.proofs.PlaceLemmas.{one_kind}
-
-same_some : {X : Type 0} {a b : X} → Some a ≡ Some b → a ≡ b
-same_some h = cc
 
 pub none_is : {X : Type 0} (o : Option X) → is_none o ≡ true → o ≡ None
 none_is None h = refl
 none_is (Some x) h = cc
 
 -- some element of a list
-
-pub any_here : {X : Type 0} (P : X → Type 0) (x : X) (xs : List X) → P x → Any P (x ∷ xs)
-any_here P x xs p = (0, x, omega arith, refl, p)
-
-pub any_later : {X : Type 0} (P : X → Type 0) (x : X) (xs : List X) → Any P xs → Any P (x ∷ xs)
-any_later P x xs d = (suc d.0, d.1, omega (arith, d.2), d.3, d.4)
-
-any_cases : {X : Type 0} (P : X → Type 0) (x : X) (xs : List X) → Any P (x ∷ xs) → P x ⊎ Any P xs
-any_cases P x xs d = go d.0 d.2 d.3
-  where
-    go : (k : ℕ) → k < length (x ∷ xs) → get_or (x ∷ xs) k d.1 ≡ d.1 → P x ⊎ Any P xs
-    go zero less is = inl (subst P (sym is) d.4)
-    go (suc k) less is = inr (k, d.1, omega (arith, less), is, d.4)
 
 none_any : {X : Type 0} (P : X → Type 0) → Any P [] → ⊥
 none_any P d = let less = d.2 in omega (arith, less)
@@ -154,8 +141,8 @@ module _ (s : Classes) (list : List Record) where
   pub names_target : (e : EndData) (t : Option Target) (place : ℕ) (kind : Kind) → IsTargetIfAny list e t → Names s list e place kind → is_link kind ≡ false → t ≡ Some (record { place = place; kind = kind })
   names_target e None place kind is names no_link = absurd (is (record { place = place; kind = kind }) (lead e place kind names no_link))
   names_target e (Some t) place kind is names no_link =
-      let places : t.place ≡ place = same_some (sym is.named ∙ names.1) in
-      let records : is.there ≡ names.0 = same_some (sym is.here ∙ (ap (slice_get list) places ∙ names.2)) in
+      let places : t.place ≡ place = same_Some _ _ (sym is.named ∙ names.1) in
+      let records : is.there ≡ names.0 = same_Some _ _ (sym is.here ∙ (ap (slice_get list) places ∙ names.2)) in
       let kinds : t.kind ≡ kind = sym is.kind ∙ (ap (λ (r : Record). r.kind) records ∙ names.3) in
       ap Some (λ i. record { place = places i; kind = kinds i })
 
@@ -240,8 +227,8 @@ module _ (s : Classes) (list : List Record) where
           go : (b : Bool) → same_kind t.kind Par && same_kind u.kind (beside role) ≡ b → (c : Bool) → same_kind u.kind Par && same_kind t.kind (beside role) ≡ c
               → cond b (Some (record { arc = t.place; other = u.place })) (cond c (Some (record { arc = u.place; other = t.place })) None) ≡ Some j → JoinsIn s list r role j.arc j.other
           go true p c q made =
-              let parts = both_true _ _ p in
-              let same = same_some made in
+              let parts = and_parts _ _ p in
+              let same = same_Some _ _ made in
               record {
                 to_arc = d;
                 to_other = e;
@@ -250,8 +237,8 @@ module _ (s : Classes) (list : List Record) where
                 other = arc_of e u j.other (beside role) second (ap (λ (k : Join). k.other) same) (kind_same u.kind (beside role) parts.1);
               }
           go false p true q made =
-              let parts = both_true _ _ q in
-              let same = same_some made in
+              let parts = and_parts _ _ q in
+              let same = same_Some _ _ made in
               record {
                 to_arc = e;
                 to_other = d;

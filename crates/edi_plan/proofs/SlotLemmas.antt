@@ -1,5 +1,5 @@
 -- Slots in which places stand.
-use Rattle.std.proofs.Common.{◌≡◌, ◌≢◌, ℕ, zero, suc, ◌+◌, ◌-◌, ◌<◌, ◌≤◌, min, ◌⊎◌, inl, inr, Bool, true, false, ◌&&◌, ◌==◌, List, [], ◌∷◌, length, drop, get_or, None, Some, is_some, if◌then◌else◌, slice_get, slice_index, slice_range, refl, sym, ap, ◌∙◌, subst, arith}
+use Rattle.std.proofs.Common.{◌≡◌, ◌≢◌, ℕ, zero, suc, ◌+◌, ◌-◌, ◌<◌, ◌≤◌, min, ◌⊎◌, inl, inr, Bool, true, false, ◌&&◌, List, [], ◌∷◌, length, drop, get_or, None, Some, is_some, if◌then◌else◌, slice_get, slice_index, slice_range, refl, sym, ap, ◌∙◌, subst, arith}
 use Rattle.std.proofs.lemmas.Bool.{cases_lt, eq-eqb}
 use Rattle.std.proofs.lemmas.List.{get_or-take, get_or-drop, length-take, length-drop}
 use Rattle.std.proofs.lemmas.Option.{slice_get_within}
@@ -10,7 +10,7 @@ use Rattle.edi_record.specs.declared.record.Kind.{Kind}
 use Rattle.edi_record.specs.declared.record.Record.{Record}
 use Rattle.edi_schema.proofs.Names.{name_itself}
 use Rattle.edi_plan.specs.PlanOf.{own_name}
-use Rattle.edi_plan.specs.inner.Hints.{is_named, is_named_at, is_held, first_held, tag_from, tag_of, slots_at, slots_of, start_of, near_number, far_number, found, HasTabled, IsPassed, ArePassed, StandsFrom, StandsUnder, KeepsPlaces}
+use Rattle.edi_plan.specs.inner.Hints.{is_named, is_named_at, is_held, first_held, tag_from, tag_of, slots_at, slots_of, start_of, near_number, far_number, HasTabled, IsPassed, ArePassed, StandsFrom, StandsUnder, KeepsPlaces}
 use Rattle.edi_plan.specs.inner.Names.{is_tabled}
 use Rattle.edi_plan.specs.inner.Slots.{tagged, slot_tag, slot_place, free_slot}
 use Rattle.edi_plan.specs.declared.name_slots.NameHints.{NameHints}

@@ -5,6 +5,7 @@ use Rattle.std.specs.Str.{bytes_eq}
 use Rattle.std.proofs.Math.Seq.{take-suc}
 use Rattle.indexmap.proofs.SetLemmas.{AllZip-push}
 use Rattle.std.proofs.lemmas.Slice.Eq.{bytes_eq-Decides}
+use Rattle.std.proofs.lemmas.Option.{same_Some}
 use Rattle.edi_record.specs.Shapes.{kind_code}
 use Rattle.edi_record.specs.declared.name.Name.{Name}
 use Rattle.edi_record.specs.LinkEnds.{EndData}
@@ -14,12 +15,10 @@ use Rattle.edi_record.specs.declared.record.Record.{Record}
 use Rattle.edi_plan.specs.inner.Names.{IsFirstRepeatedNameIfAny}
 use Rattle.edi_plan.specs.PlanOf.{place_named}
 use Rattle.edi_record.specs.Records.{is_link}
+use Rattle.edi_record.proofs.KindCodes.{kind_from_code}
 use Rattle.edi_plan.specs.inner.Targets.{target_kind, HasNameAt, Leads, IsTargetIfAny}
 use Rattle.edi_plan.specs.declared.targets.Target.{Target}
-use Rattle.edi_plan.proofs.NameLemmas.{coded_kind, first_named, has_name}
-
-same_some : {X : Type 0} {a b : X} → Some a ≡ Some b → a ≡ b
-same_some h = cc
+use Rattle.edi_plan.proofs.NameLemmas.{first_named, has_name}
 
 -- codes of types
 
@@ -27,7 +26,7 @@ pub coded : (code : List ℕ) (k : Kind) → target_kind code ≡ Some k → (co
 coded code k h = go (bytes_eq code (codes "PNO")) refl (bytes_eq code (codes "PAR")) refl (bytes_eq code (codes "PFE")) refl (bytes_eq code (codes "FEA")) refl h
   where
     is : (text : List ℕ) (j : Kind) → bytes_eq code text ≡ true → kind_code j ≡ text → is_link j ≡ false → Some j ≡ Some k → (code ≡ kind_code k) × (is_link k ≡ false)
-    is text j t e no_link same = subst (λ (m : Kind). (code ≡ kind_code m) × (is_link m ≡ false)) (same_some same) ((bytes_eq-Decides code text).0 t ∙ sym e, no_link)
+    is text j t e no_link same = subst (λ (m : Kind). (code ≡ kind_code m) × (is_link m ≡ false)) (same_Some _ _ same) ((bytes_eq-Decides code text).0 t ∙ sym e, no_link)
 
     go : (n : Bool) → bytes_eq code (codes "PNO") ≡ n → (a : Bool) → bytes_eq code (codes "PAR") ≡ a → (f : Bool) → bytes_eq code (codes "PFE") ≡ f → (o : Bool) → bytes_eq code (codes "FEA") ≡ o
         → cond n (Some Pno) (cond a (Some Par) (cond f (Some Pfe) (cond o (Some Fea) None))) ≡ Some k → (code ≡ kind_code k) × (is_link k ≡ false)
@@ -55,7 +54,7 @@ module _ (list : List Record) (e : EndData) where
   pub leads_kind : (t : Target) → Leads list e t → target_kind e.target.rty ≡ Some t.kind
   leads_kind t d =
       let at = has_name list e.target t.place d.named in
-      let same : at.0 ≡ d.there = same_some (sym at.1 ∙ d.here) in
+      let same : at.0 ≡ d.there = same_Some _ _ (sym at.1 ∙ d.here) in
       let code : kind_code t.kind ≡ e.target.rty = sym (ap kind_code (ap (λ (r : Record). r.kind) same ∙ d.kind)) ∙ ap (λ (n : Name). n.rty) at.2 in
       subst (λ text. target_kind text ≡ Some t.kind) code (uncoded t.kind d.no_link)
 
@@ -70,7 +69,7 @@ module _ (list : List Record) (e : EndData) where
       let at = has_name list e.target place found in
       let both = coded e.target.rty k is in
       let kinds : target_kind (kind_code at.0.kind) ≡ Some k = ap target_kind (ap (λ (n : Name). n.rty) at.2) ∙ is in
-      record { there = at.0; named = found; here = at.1; kind = coded_kind at.0.kind k (ap (λ (n : Name). n.rty) at.2 ∙ both.0); no_link = both.1 }
+      record { there = at.0; named = found; here = at.1; kind = kind_from_code at.0.kind k (ap (λ (n : Name). n.rty) at.2 ∙ both.0); no_link = both.1 }
 
 -- lists side by side
 

@@ -116,8 +116,8 @@ fn near_from(kind: Kind, own: u64) -> u64
         .wrapping_add(kind_slot(kind))
 }
 
-/// The tag of an identifier: a byte in which those that share slots mostly differ, whether by their numbers or, as `v12_106`
-/// and `h12_106` do, in their first bytes.
+/// The tag of an identifier: a byte in which those that share slots mostly differ, whether by their numbers or by their
+/// first bytes, as `v12_106` and `h12_106` do.
 #[tactic(auto, unfolding(crate::specs::inner::Hints::tag_from))]
 fn tag_from(rid: &[u8], own: u64) -> u8
     ensures { result ≡ tag_from rid.now own }

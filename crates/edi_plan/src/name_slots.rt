@@ -40,9 +40,9 @@ pub(crate) fn place_in(slot: u32) -> u32
     slot % TAG_UNIT
 }
 
-/// Places of records in slots, each with a tag of its name. The last bytes of an identifier, read as a number, say where its
-/// eight slots begin, and eight more where these are full, so identifiers that are numbered stand apart; others may not, and
-/// then there are no hints. Whoever chooses names can do no more than that.
+/// Places of records in slots, each with a tag of its name. The last bytes of an identifier, read as a number, say where
+/// its eight slots begin, and eight more where these are full. Identifiers that are numbered so stand apart. Others may
+/// not, and then there are no hints: someone who chooses names can do no more harm than that.
 #[derive(Drop)]
 pub(crate) struct NameHints {
     pub(crate) slots: Vec<u32>,

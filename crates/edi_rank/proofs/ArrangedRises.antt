@@ -1,9 +1,10 @@
 -- The plan that labels make of a plan stands in order, whatever its records, where no arc equals its reverse.
-use Rattle.std.proofs.Common.{◌≡◌, ℕ, zero, suc, ◌+◌, ◌-◌, ◌<◌, ◌≤◌, Bool, true, false, cond, true≢false, ◌&&◌, not, List, [], ◌∷◌, map, reverse, length, refl, sym, ap, ap₂, ◌∙◌, subst, arith, IsPermutation, count_by, Ordering, Less, Equal, Greater, is_gt, is_lt}
+use Rattle.std.proofs.Common.{◌≡◌, ℕ, suc, ◌-◌, ◌≤◌, Bool, true, false, ◌&&◌, not, List, [], ◌∷◌, map, reverse, length, refl, sym, ap, ap₂, ◌∙◌, subst, arith, IsPermutation, count_by, Less, is_gt}
 use Rattle.std.specs.List.{AllByRecursion}
 use Rattle.std.specs.Option.{option_cmp}
 use Rattle.std.proofs.lemmas.List.Sorted.{IsPermutation-sym}
 use Rattle.edi_line.specs.Refusal.{IsUnbroken}
+use Rattle.edi_line.proofs.EachElement.{each_in_any_order, each_weaker}
 use Rattle.edi_record.specs.Shapes.{may_have_points, may_have_ends}
 use Rattle.edi_record.specs.declared.record.Kind.{Kind}
 use Rattle.edi_record.specs.declared.record.Kind.TheVariants.{Par, Pfe, Fea, Lnk}
@@ -26,9 +27,9 @@ use Rattle.edi_rank.specs.Labelling.{Labelling, AreLabels, number_of, turned_at,
 use Rattle.edi_rank.specs.Same.{OneToOne, moved, directed}
 use Rattle.edi_rank.specs.Turned.{is_forward, turned_record, role_after}
 use Rattle.edi_rank.proofs.ArrangedOrder.{by_type, attributes_in_order, both_before, kind_from, nodes_rise, arcs_rise}
-use Rattle.edi_rank.proofs.ArrangedUnder.{all_along, directed_long, plain_after}
+use Rattle.edi_rank.proofs.ArrangedUnder.{directed_long, plain_after}
 use Rattle.edi_rank.proofs.Arranging.{From, came_from, new_places, record_placed, carries_record, carries_arranged, numbered_total}
-use Rattle.edi_rank.proofs.KeysPreserved.{Kept, kept_from, all_weaker, two_hold, counted_equal, link_key_preserved, face_key_preserved, object_key_preserved}
+use Rattle.edi_rank.proofs.KeysPreserved.{Kept, kept_from, two_hold, counted_equal, link_key_preserved, face_key_preserved, object_key_preserved}
 use Rattle.edi_rank.proofs.TurnedRecords.{record_turned, turned_long, reverse_forward}
 use Rattle.edi_rank.proofs.Renumbered.{up, shift, shift_cmp, link_shift, link_shift_cmp, object_shift, object_shift_cmp, face_shift, faces_shift_cmp, link_up, object_up, least_up, shifted, shifted_is, never-map}
 use Rattle.edi_rank.proofs.SameLaws.{map_alike, map-map}
@@ -67,9 +68,9 @@ module _ (s : Classes) (p : PlanData) (l : Labelling) (labels : AreLabels s p l)
   whole_turned = record {
     few = omega (arith, long, whole.few);
     there = λ k h. subst (λ (r : PlanRecord). AllByRecursion (λ e. IsPlace turned e.target) r.ends) (sym (after k h))
-        (all_weaker (λ e. IsPlace p e.target) (λ e. IsPlace turned e.target) (λ e t. there_too e.target t) (record_at p k).ends (whole.there k (there_before k h)));
+        (each_weaker (λ e. IsPlace p e.target) (λ e. IsPlace turned e.target) (λ e t. there_too e.target t) (record_at p k).ends (whole.there k (there_before k h)));
     no_link = λ k h. subst (λ (r : PlanRecord). AllByRecursion (λ e. is_link (record_at turned e.target).kind ≡ false) r.ends) (sym (after k h))
-        (all_weaker (λ e. IsPlace p e.target × (is_link (record_at p e.target).kind ≡ false)) (λ e. is_link (record_at turned e.target).kind ≡ false)
+        (each_weaker (λ e. IsPlace p e.target × (is_link (record_at p e.target).kind ≡ false)) (λ e. is_link (record_at turned e.target).kind ≡ false)
         (λ e t. ap is_link (kind_turned e.target (there_too e.target t.0)) ∙ t.1) (record_at p k).ends (two_hold _ _ _ (whole.there k (there_before k h)) (whole.no_link k (there_before k h))));
     points = λ k h. subst (λ (r : PlanRecord). may_have_points r.kind (length r.points) ≡ true) (sym (after k h))
         (ap (may_have_points (record_at p k).kind) (directed_long (turned_at l.turned k) (record_at p k).points) ∙ whole.points k (there_before k h));
@@ -124,7 +125,7 @@ module _ (s : Classes) (p : PlanData) (l : Labelling) (labels : AreLabels s p l)
   link_made : (j : ℕ) (w : From s p l labels j) → link_key made suc (record_at made j) ≡ link_shift off (link_key turned (number_of l) (record_at turned w.old))
   link_made j w = ap (λ i. link_key made suc (record_at made i)) (sym w.is)
       ∙ (link_key_preserved turned made whole_turned.there to places kept number suc (record_at turned w.old) (record_at made (to w.old)) (kept w.old (there_too w.old w.there)) (class_kept w.old (there_too w.old w.there))
-      (all_weaker (λ e. IsPlace turned e.target) (λ e. IsPlace turned e.target × (suc (to e.target) ≡ number e.target)) (λ e t. (t, number_is e.target t)) (record_at turned w.old).ends (whole_turned.there w.old (there_too w.old w.there)))
+      (each_weaker (λ e. IsPlace turned e.target) (λ e. IsPlace turned e.target × (suc (to e.target) ≡ number e.target)) (λ e t. (t, number_is e.target t)) (record_at turned w.old).ends (whole_turned.there w.old (there_too w.old w.there)))
       ∙ link_up off turned (number_of l) (record_at turned w.old))
 
   faces_rise : (i k : ℕ) → Both made suc Pfe i k → option_cmp face_key_cmp (least_side made suc i) (least_side made suc k) ≡ Less
@@ -164,7 +165,7 @@ module _ (s : Classes) (p : PlanData) (l : Labelling) (labels : AreLabels s p l)
   others_made (x ∷ xs) all =
       let total = numbered_total p (number_of l) in
       let sorted = sort_by (numbered_cmp p (number_of l)) xs in
-      let there = all_along (λ e. IsPlace p e.target) xs sorted (IsPermutation-sym _ _ (IsPermutation-sort_by (numbered_cmp p (number_of l)) total xs)) all.1 in
+      let there = each_in_any_order (λ e. IsPlace p e.target) xs sorted (IsPermutation-sym _ _ (IsPermutation-sort_by (numbered_cmp p (number_of l)) total xs)) all.1 in
       subst (NeverFalls end_cmp)
       (sym (map-map (numbered made suc) (moved to) sorted ∙ map_alike (λ e. IsPlace p e.target) (λ e. numbered made suc (moved to e)) (λ e. shift off (numbered p (number_of l) e)) end_made sorted there))
       (never-map (numbered_cmp p (number_of l)) end_cmp (λ e. shift off (numbered p (number_of l) e)) (λ a b. shift_cmp off (numbered p (number_of l) a) (numbered p (number_of l) b)) sorted

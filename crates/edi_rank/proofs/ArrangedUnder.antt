@@ -1,10 +1,10 @@
 -- The plan that labels make of a plan is whole, agrees with the schema, and is of nodes alone, where the plan is.
-use Rattle.std.proofs.Common.{◌≡◌, ℕ, zero, suc, ◌<◌, ◌≤◌, Bool, true, false, cond, true≢false, List, [], ◌∷◌, map, length, Some, None, unwrap_or, refl, sym, ap, ◌∙◌, subst, arith, IsPermutation, count_by, nat_lt}
+use Rattle.std.proofs.Common.{◌≡◌, ℕ, zero, suc, ◌<◌, ◌≤◌, Bool, true, false, cond, true≢false, List, map, length, Some, None, unwrap_or, refl, sym, ap, ◌∙◌, subst, arith, IsPermutation, count_by, nat_lt}
 use Rattle.std.specs.List.{AllByRecursion, position_or_len}
 use Rattle.std.proofs.lemmas.Bool.{ltb-true}
 use Rattle.std.proofs.lemmas.List.{length-map, length-reverse}
-use Rattle.std.proofs.lemmas.List.Elements.{recursion_from_All, All-from_recursion}
-use Rattle.std.proofs.lemmas.List.Sorted.{All-permutation, length_permutation, IsPermutation-sym}
+use Rattle.std.proofs.lemmas.List.Sorted.{length_permutation, IsPermutation-sym}
+use Rattle.edi_line.proofs.EachElement.{each_in_any_order, each_mapped, each_weaker, each_from_places}
 use Rattle.edi_record.specs.Shapes.{may_have_points, may_have_ends}
 use Rattle.edi_record.specs.declared.record.Point.{Point}
 use Rattle.edi_schema.specs.Classes.{Classes, IsPaired, role_of, partner_of, has_role}
@@ -15,6 +15,7 @@ use Rattle.edi_schema.proofs.SortedLists.{IsPermutation-sort_by, counts_from_per
 use Rattle.edi_plan.specs.Agreeing.{AttributeAgrees, RecordAgrees, Agrees}
 use Rattle.edi_plan.specs.Orders.{attribute_cmp}
 use Rattle.edi_record.specs.Records.{is_link}
+use Rattle.edi_schema.proofs.RoleTests.{still_plain}
 use Rattle.edi_plan.specs.Plans.{PlanData, IsPlace, record_at, blank, is_arc}
 use Rattle.edi_plan.specs.Whole.{IsWholePlan}
 use Rattle.edi_plan.specs.declared.record.PlanRecord.{PlanRecord}
@@ -27,19 +28,11 @@ use Rattle.edi_rank.specs.Laws.{IsPlanUnder}
 use Rattle.edi_rank.specs.Same.{OneToOne, moved, has_turned_arc, class_after, directed, Carries}
 use Rattle.edi_rank.specs.Turned.{role_after}
 use Rattle.edi_rank.proofs.Arranging.{carries_arranged, From, came_from, new_places}
-use Rattle.edi_rank.proofs.KeysPreserved.{all_weaker, two_hold, count_by-map, counted_equal}
+use Rattle.edi_rank.proofs.KeysPreserved.{two_hold, count_by-map, counted_equal}
 use Rattle.edi_rank.proofs.SameLaws.{ends_moved, record_agrees}
 use Rattle.edi_rank.proofs.Sums.{sum_below-renamed}
-use Rattle.edi_rank.proofs.Unique.{all_places}
 
 -- lists
-
-pub all_along : {X : Type 0} (P : X → Type 0) (xs ys : List X) → IsPermutation xs ys → AllByRecursion P xs → AllByRecursion P ys
-all_along P xs ys same all = recursion_from_All P ys (All-permutation P xs ys same (All-from_recursion P xs all))
-
-pub all_mapped : {X Y : Type 0} (P : Y → Type 0) (f : X → Y) (xs : List X) → AllByRecursion (λ x. P (f x)) xs → AllByRecursion P (map f xs)
-all_mapped P f [] all = tt
-all_mapped P f (x ∷ xs) all = (all.0, all_mapped P f xs all.1)
 
 pub directed_long : (t : Bool) (points : List Point) → length (directed t points) ≡ length points
 directed_long true points = length-reverse points
@@ -73,18 +66,11 @@ plain_itself Left h = absurd (true≢false (sym h))
 plain_itself Right h = absurd (true≢false (sym h))
 plain_itself Plain h = refl
 
-still_kind : (r : Role) → is_plain (exchanged r) ≡ is_plain r
-still_kind Initial = refl
-still_kind Final = refl
-still_kind Left = refl
-still_kind Right = refl
-still_kind Plain = refl
-
 pub plain_after : (turned : ℕ → Bool) (r : PlanRecord) → is_plain (role_after turned r) ≡ is_plain r.role
 plain_after turned r = go (has_turned_arc turned r)
   where
     go : (t : Bool) → is_plain (cond t (exchanged r.role) r.role) ≡ is_plain r.role
-    go true = still_kind r.role
+    go true = still_plain r.role
     go false = refl
 
 class_within : (s : Classes) (turned : ℕ → Bool) (r : PlanRecord) → r.class < length s → class_after (partner_of s) turned r < length s
@@ -120,7 +106,7 @@ module _ (s : Classes) (p : PlanData) (l : Labelling) (labels : AreLabels s p l)
   at_each P each j h = let w = from j h in subst P (sym w.made) (each w.old w.there)
 
   pub agrees_arranged : IsPaired s → Agrees s p → Agrees s (arranged s l p)
-  agrees_arranged paired agrees = all_places (RecordAgrees s) (arranged s l p).list blank (at_each (RecordAgrees s) each)
+  agrees_arranged paired agrees = each_from_places (RecordAgrees s) (arranged s l p).list blank (at_each (RecordAgrees s) each)
     where
       each : (k : ℕ) → IsPlace p k → RecordAgrees s (arranged_record s l p k)
       each k h =
@@ -128,7 +114,7 @@ module _ (s : Classes) (p : PlanData) (l : Labelling) (labels : AreLabels s p l)
           record {
             known = class_within s (turned_at l.turned) (record_at p k) r.known;
             role = role_agrees s paired (turned_at l.turned) (record_at p k) r.role;
-            attributes = all_along (AttributeAgrees s) (record_at p k).attributes _ (IsPermutation-sym _ _ (IsPermutation-sort_by attribute_cmp attribute_total (record_at p k).attributes)) r.attributes;
+            attributes = each_in_any_order (AttributeAgrees s) (record_at p k).attributes _ (IsPermutation-sym _ _ (IsPermutation-sort_by attribute_cmp attribute_total (record_at p k).attributes)) r.attributes;
           }
 
   module _ (whole : IsWholePlan p) where
@@ -138,7 +124,7 @@ module _ (s : Classes) (p : PlanData) (l : Labelling) (labels : AreLabels s p l)
     -- what holds of each end that is there, once it is renamed, holds of the ends of the arranged record
     ends_hold : (P : PlanEnd → Type 0) (k : ℕ) → IsPlace p k → AllByRecursion (λ e. P (moved (new_place l p) e)) (record_at p k).ends
         → AllByRecursion P (record_at (arranged s l p) (new_place l p k)).ends
-    ends_hold P k h all = all_along P _ _ (moved_ends k h) (all_mapped P (moved (new_place l p)) (record_at p k).ends all)
+    ends_hold P k h all = each_in_any_order P _ _ (moved_ends k h) (each_mapped P (moved (new_place l p)) (record_at p k).ends all)
 
     -- a place is the new place of an old one
     at_new : (P : ℕ → Type 0) → ((k : ℕ) → IsPlace p k → P (new_place l p k)) → (j : ℕ) → IsPlace (arranged s l p) j → P j
@@ -160,11 +146,11 @@ module _ (s : Classes) (p : PlanData) (l : Labelling) (labels : AreLabels s p l)
       where
         there : (k : ℕ) → IsPlace p k → AllByRecursion (λ e. IsPlace (arranged s l p) e.target) (record_at (arranged s l p) (new_place l p k)).ends
         there k h = ends_hold (λ e. IsPlace (arranged s l p) e.target) k h
-            (all_weaker (λ e. IsPlace p e.target) (λ e. IsPlace (arranged s l p) (new_place l p e.target)) (λ e t. c.places.within e.target t) (record_at p k).ends (whole.there k h))
+            (each_weaker (λ e. IsPlace p e.target) (λ e. IsPlace (arranged s l p) (new_place l p e.target)) (λ e t. c.places.within e.target t) (record_at p k).ends (whole.there k h))
 
         no_link : (k : ℕ) → IsPlace p k → AllByRecursion (λ e. is_link (record_at (arranged s l p) e.target).kind ≡ false) (record_at (arranged s l p) (new_place l p k)).ends
         no_link k h = ends_hold (λ e. is_link (record_at (arranged s l p) e.target).kind ≡ false) k h
-            (all_weaker (λ e. IsPlace p e.target × (is_link (record_at p e.target).kind ≡ false)) (λ e. is_link (record_at (arranged s l p) (new_place l p e.target)).kind ≡ false)
+            (each_weaker (λ e. IsPlace p e.target × (is_link (record_at p e.target).kind ≡ false)) (λ e. is_link (record_at (arranged s l p) (new_place l p e.target)).kind ≡ false)
             (λ e t. ap is_link (kind_kept e.target t.0) ∙ t.1) (record_at p k).ends (two_hold _ _ _ (whole.there k h) (whole.no_link k h)))
 
         ends : (k : ℕ) → IsPlace p k → may_have_ends (record_at (arranged s l p) (new_place l p k)).kind (length (record_at (arranged s l p) (new_place l p k)).ends) ≡ true

@@ -5,7 +5,8 @@ use Rattle.edi_line.specs.Refusal.{IsUnbroken}
 use Rattle.edi_record.specs.declared.record.Kind.TheVariants.{Par, Pfe}
 use Rattle.edi_schema.specs.Roles.{exchanged}
 use Rattle.edi_schema.specs.declared.role.Role.{Role}
-use Rattle.edi_schema.specs.declared.role.Role.TheVariants.{Initial, Final, Left, Right, Plain}
+use Rattle.edi_schema.specs.declared.role.Role.TheVariants.{Left, Right}
+use Rattle.edi_schema.proofs.RoleTests.{exchanged_back}
 use Rattle.edi_plan.specs.Joined.{IsJoined}
 use Rattle.edi_plan.specs.Places.{places_of, member_of}
 use Rattle.edi_plan.specs.Plans.{PlanData, IsPlace, record_at}
@@ -29,13 +30,6 @@ use Rattle.edi_rank.proofs.Orders.{face_key_exact}
 use Rattle.edi_rank.proofs.RankedApart.{place_of_member}
 
 -- roles
-
-pub exchanged_back : (r : Role) → exchanged (exchanged r) ≡ r
-exchanged_back Initial = refl
-exchanged_back Final = refl
-exchanged_back Left = refl
-exchanged_back Right = refl
-exchanged_back Plain = refl
 
 one_role : (t : Bool) (r q : Role) → cond t (exchanged r) r ≡ cond t (exchanged q) q → r ≡ q
 one_role true r q e = sym (exchanged_back r) ∙ (ap exchanged e ∙ exchanged_back q)

@@ -2,12 +2,14 @@
 use Rattle.std.proofs.Common.{◌≡◌, ℕ, suc, ◌<◌, ◌⊎◌, inl, inr, Bool, true, false, true≢false, not, ◌&&◌, List, [], map, reverse, length, refl, sym, ap, ap₂, ◌∙◌, subst, arith}
 use Rattle.std.specs.List.{AllByRecursion}
 use Rattle.std.proofs.Math.Bool.{not-not}
+use Rattle.edi_line.proofs.EachElement.{each_weaker, each_from_places}
 use Rattle.edi_record.specs.declared.record.Kind.{Kind}
 use Rattle.edi_record.specs.declared.record.Kind.TheVariants.{Pno, Par, Pfe, Fea, Lnk}
 use Rattle.edi_record.specs.declared.record.Point.{Point}
 use Rattle.edi_schema.specs.Classes.{Classes}
 use Rattle.edi_schema.specs.Roles.{is_plain}
 use Rattle.edi_schema.specs.declared.role.Role.{Role}
+use Rattle.edi_schema.proofs.RoleTests.{exchanged_back}
 use Rattle.edi_plan.specs.Joined.{IsJoined}
 use Rattle.edi_plan.specs.Places.{places_of}
 use Rattle.edi_plan.specs.Plans.{PlanData, IsPlace, record_at, kind_rank, is_arc, is_object, first_of}
@@ -25,14 +27,12 @@ use Rattle.edi_rank.specs.Layers.{forward_plan}
 use Rattle.edi_rank.specs.Same.{OneToOne, has_turned_arc, directed, Carries}
 use Rattle.edi_rank.specs.Turned.{is_forward, is_backward, role_after, turned_record}
 use Rattle.edi_rank.proofs.Arranging.{backward_arc}
-use Rattle.edi_rank.proofs.FacesApart.{exchanged_back}
 use Rattle.edi_rank.proofs.Preserved.{role_turned, plain_turned, plain_stays, role_carried}
-use Rattle.edi_rank.proofs.KeysPreserved.{Kept, kept_from, all_weaker, face_key_preserved, object_key_preserved}
+use Rattle.edi_rank.proofs.KeysPreserved.{Kept, kept_from, face_key_preserved, object_key_preserved}
 use Rattle.edi_rank.proofs.ObjectsPreserved.{class_kept, piece_class}
 use Rattle.edi_rank.proofs.SameLaws.{carries_itself, differ, map_alike, passes_alike, any_differ, tested_before}
 use Rattle.edi_rank.proofs.Sided.{arc_is}
 use Rattle.edi_rank.proofs.TurnedRecords.{record_turned, turned_long, reverse_forward}
-use Rattle.edi_rank.proofs.Unique.{all_places}
 
 -- arcs
 
@@ -106,7 +106,7 @@ module _ (s : Classes) (p q : PlanData) (under : IsPlanUnder s p) (under' : IsPl
 
   ends_there : (i : ℕ) → IsPlace (forward_plan p) i → AllByRecursion (λ e. IsPlace (forward_plan p) e.target) (record_at (forward_plan p) i).ends
   ends_there i h = subst (λ (r : PlanRecord). AllByRecursion (λ e. IsPlace (forward_plan p) e.target) r.ends) (sym (after p i (before i h)))
-      (all_weaker (λ e. IsPlace p e.target) (λ e. IsPlace (forward_plan p) e.target) (λ e t. omega (arith, t, long p)) (record_at p i).ends (under.whole.there i (before i h)))
+      (each_weaker (λ e. IsPlace p e.target) (λ e. IsPlace (forward_plan p) e.target) (λ e t. omega (arith, t, long p)) (record_at p i).ends (under.whole.there i (before i h)))
 
   places : OneToOne to (length (forward_plan p).list) (length (forward_plan q).list)
   places = subst (λ n. OneToOne to n (length (forward_plan q).list)) (sym (long p)) (subst (OneToOne to (length p.list)) (sym (long q)) c.places)
@@ -152,4 +152,4 @@ pub object_keys_alike : (p : PlanData) → IsWholePlan p → IsJoined p → (num
 object_keys_alike p whole joined number number' same =
     map_alike (λ k. IsPlace p k × ((record_at p k).kind ≡ Fea)) (object_key p number') (object_key p number)
     (λ k h. object_carried [] p p whole joined (λ i. i) (λ _. false) (carries_itself [] p) number number' (λ i l _. same i l) (λ i l _. same i l) (λ i l _. same i l) k h.0 h.1)
-    (places_of Fea p) (all_places (λ k. IsPlace p k × ((record_at p k).kind ≡ Fea)) (places_of Fea p) 0 (λ m h. (place_there Fea p m h, place_of_kind Fea p m h)))
+    (places_of Fea p) (each_from_places (λ k. IsPlace p k × ((record_at p k).kind ≡ Fea)) (places_of Fea p) 0 (λ m h. (place_there Fea p m h, place_of_kind Fea p m h)))

@@ -1,9 +1,10 @@
 -- What a renaming does not change: the keys, where it preserves the numbers of the layers below.
 use Rattle.std.proofs.Common.{◌≡◌, ℕ, ◌+◌, ◌<◌, Bool, true, false, cond, ◌||◌, ◌&&◌, ◌==◌, nat_eq, List, [], ◌∷◌, map, length, filter_map, Option, Some, None, option_map, refl, sym, ap, ap₂, ◌∙◌, subst, arith, ◌⊎◌, inl, inr, IsPermutation, count_by, true≢false, eq-eqb, ne_eqb, eqb-true}
 use Rattle.std.specs.List.{list_any, AllByRecursion}
-use Rattle.std.proofs.lemmas.Bool.{cases_eq}
+use Rattle.std.proofs.lemmas.Bool.{cases_eq, and_parts}
 use Rattle.std.proofs.lemmas.List.Elements.{recursion_from_All, All-from_recursion}
-use Rattle.std.proofs.lemmas.List.Sorted.{IsPermutation-map, IsPermutation-sym, All-permutation, length_permutation}
+use Rattle.std.proofs.lemmas.List.Sorted.{IsPermutation-map, All-permutation, length_permutation}
+use Rattle.edi_line.proofs.EachElement.{each_weaker}
 use Rattle.edi_record.specs.declared.record.Kind.{Kind}
 use Rattle.edi_record.specs.declared.record.Kind.TheVariants.{Pno, Par, Pfe, Fea, Lnk}
 use Rattle.edi_schema.specs.Classes.{Classes}
@@ -157,18 +158,9 @@ one_passes {X} P t only (x ∷ xs) one any = go (P x) (t x) refl refl (sym (coun
     go false true e f h g more none = absurd (true≢false (sym (only x f) ∙ e))
     go false false e f h g more none = (inr e, more (omega arith) g)
 
-both_true : (a b : Bool) → a && b ≡ true → (a ≡ true) × (b ≡ true)
-both_true true true h = (refl, refl)
-both_true true false h = absurd (true≢false (sym h))
-both_true false b h = absurd (true≢false (sym h))
-
 pub two_hold : {X : Type 0} (P Q : X → Type 0) (xs : List X) → AllByRecursion P xs → AllByRecursion Q xs → AllByRecursion (λ x. P x × Q x) xs
 two_hold P Q [] h g = tt
 two_hold P Q (x ∷ xs) h g = ((h.0, g.0), two_hold P Q xs h.1 g.1)
-
-pub all_weaker : {X : Type 0} (P Q : X → Type 0) → ((x : X) → P x → Q x) → (xs : List X) → AllByRecursion P xs → AllByRecursion Q xs
-all_weaker P Q f [] h = tt
-all_weaker P Q f (x ∷ xs) h = (f x h.0, all_weaker P Q f xs h.1)
 
 below_object : (k : Kind) → is_link k ≡ false → is_object k ≡ false → kind_rank k < 3
 below_object Pno h g = omega arith
@@ -207,12 +199,12 @@ module _ (p q : PlanData) (whole : IsWholePlan p) (to : ℕ → ℕ) (places : O
   piece_ends : (i : ℕ) → i < length p.list → is_piece p object (record_at p i) ≡ true
       → AllByRecursion (λ x. (x.target < length p.list) × (marked nq (to object) (to x.target) ≡ marked np object x.target)) ((record_at p i).ends)
   piece_ends i h piece =
-      let parts = both_true _ _ piece in
-      let link = both_true _ _ parts.0 in
+      let parts = and_parts _ _ piece in
+      let link = and_parts _ _ parts.0 in
       let one : count_by (object_end p) ((record_at p i).ends) ≡ 1 = eqb-true _ _ link.1 in
       let only = one_passes (object_end p) (λ x. x.target == object) (λ x e. subst (λ t. is_object (record_at p t).kind ≡ true) (sym (eqb-true x.target object e)) is) ((record_at p i).ends) one parts.1 in
       let known = two_hold _ _ _ (whole.there i h) (two_hold _ _ _ (whole.no_link i h) only) in
-      all_weaker _ _ (λ x k. (k.0, marked_kept x.target k.0 (narrowed x k.1.0 k.1.1))) ((record_at p i).ends) known
+      each_weaker _ _ (λ x k. (k.0, marked_kept x.target k.0 (narrowed x k.1.0 k.1.1))) ((record_at p i).ends) known
     where
       narrowed : (x : PlanEnd) → is_link (record_at p x.target).kind ≡ false → (nat_eq x.target object ≡ true) ⊎ (is_object (record_at p x.target).kind ≡ false) → (nat_eq x.target object ≡ true) ⊎ (kind_rank (record_at p x.target).kind < 3)
       narrowed x h (inl e) = inl e

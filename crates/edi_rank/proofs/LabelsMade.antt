@@ -1,5 +1,5 @@
 -- The labels that the numbers of the layers make.
-use Rattle.std.proofs.Common.{◌≡◌, ◌≢◌, ℕ, zero, suc, ◌+◌, ◌-◌, ◌<◌, ◌≤◌, ◌⊎◌, inl, inr, Bool, true, false, cond, true≢false, ◌&&◌, not, List, [], ◌∷◌, map, length, get_or, Option, Some, None, refl, sym, ap, ap₂, ◌∙◌, subst, arith, Ordering, Less, Equal, Greater, is_gt}
+use Rattle.std.proofs.Common.{◌≡◌, ◌≢◌, ℕ, ◌+◌, ◌-◌, ◌<◌, ◌⊎◌, inl, inr, Bool, true, false, cond, true≢false, ◌&&◌, not, List, [], ◌∷◌, map, length, get_or, Some, refl, sym, ap, ap₂, ◌∙◌, subst, arith, Ordering, Less, Equal, Greater, is_gt}
 use Rattle.std.specs.List.{AllByRecursion, slice_get, list_any}
 use Rattle.std.specs.Option.{option_cmp}
 use Rattle.std.specs.Ordering.{ordering_then}
@@ -7,6 +7,7 @@ use Rattle.std.proofs.lemmas.Bool.{cases_order}
 use Rattle.std.proofs.lemmas.List.{get_or-map}
 use Rattle.std.proofs.lemmas.Option.{slice_get-get_or, get_or_from_slice_get, slice_get_within}
 use Rattle.edi_line.specs.Refusal.{IsUnbroken}
+use Rattle.edi_line.proofs.EachElement.{each_weaker}
 use Rattle.edi_record.specs.Orders.{points_cmp}
 use Rattle.edi_record.specs.declared.record.Kind.{Kind}
 use Rattle.edi_record.specs.declared.record.Kind.TheVariants.{Pno, Par, Pfe, Fea, Lnk}
@@ -38,7 +39,7 @@ use Rattle.edi_rank.specs.Same.{class_after, directed}
 use Rattle.edi_rank.specs.Turned.{is_forward, is_backward, turned_record}
 use Rattle.edi_rank.proofs.ArrangedOrder.{no_ends}
 use Rattle.edi_rank.proofs.FacesApart.{least_is}
-use Rattle.edi_rank.proofs.KeysPreserved.{all_weaker, two_hold}
+use Rattle.edi_rank.proofs.KeysPreserved.{two_hold}
 use Rattle.edi_rank.proofs.LinksApart.{placed_total}
 use Rattle.edi_rank.proofs.OthersSorted.{in_order_alike, rest_hold}
 use Rattle.edi_rank.proofs.TurnedRecords.{record_turned, turned_place}
@@ -261,7 +262,7 @@ module _ (s : Classes) (p : PlanData) (whole : IsWholePlan p) (joined : IsJoined
 
   others_ordered : (k : ℕ) → IsPlace p k → OthersInOrder p (number_of l) l.others k
   others_ordered k h = in_order_alike p (λ j. get_or unlinked j 0) (number_of l) (positions_at l.others k) (others_of (record_at p k))
-      (all_weaker BelowLinks (λ e. get_or unlinked e.target 0 ≡ number_of l e.target) (λ e below_links. sym (lower e.target below_links.0 below_links.1)) (others_of (record_at p k)) (rest_hold BelowLinks (record_at p k).ends (ends_named k h)))
+      (each_weaker BelowLinks (λ e. get_or unlinked e.target 0 ≡ number_of l e.target) (λ e below_links. sym (lower e.target below_links.0 below_links.1)) (others_of (record_at p k)) (rest_hold BelowLinks (record_at p k).ends (ends_named k h)))
       (in_order k h)
 
   pub labels_made : ((i k : ℕ) → Both made (number_of l) Fea i k → object_key_cmp (object_key made (number_of l) i) (object_key made (number_of l) k) ≡ Less) → AreLabels s p l

@@ -22,9 +22,8 @@ use Rattle.edi_plan.proofs.PlaceLemmas.{places_rise, place_there, place_of_kind}
 use Rattle.edi_topo.specs.Arcs.{forward_keys}
 use Rattle.edi_topo.specs.Directions.{forward}
 use Rattle.edi_topo.specs.NodeKeys.{node_key, node_key_cmp, node_keys, no_node}
-use Rattle.edi_topo.specs.Ranking.{IsRanking, Ties}
+use Rattle.edi_topo.specs.Ranking.{keyed, IsRanking, Ties}
 use Rattle.edi_topo.specs.TopologyRules.{BreaksTopologyRule}
-use Rattle.edi_topo.specs.inner.Keyed.{keyed}
 use Rattle.edi_topo.proofs.FirstArcRepeat.{key_is}
 use Rattle.edi_topo.proofs.NodeOrders.{node_key_total, node_key_exact}
 use Rattle.edi_rank.specs.EndOrder.{PutsInOrder}

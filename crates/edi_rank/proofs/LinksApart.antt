@@ -4,9 +4,9 @@ use Rattle.std.specs.Cmp.{IsTotalOrder}
 use Rattle.std.specs.Ordering.{ordering_then}
 use Rattle.std.proofs.lemmas.Cmp.{then_total, on_total, nat_cmp_total}
 use Rattle.std.proofs.lemmas.Map.Lookups.{exact_unsigned}
+use Rattle.edi_line.proofs.Truths.{then_tied}
 use Rattle.edi_record.specs.declared.record.Kind.TheVariants.{Lnk}
 use Rattle.edi_plan.specs.Places.{places_of}
-use Rattle.edi_plan.proofs.Orders.{then_tied}
 use Rattle.edi_plan.proofs.PlaceLemmas.{places_rise}
 use Rattle.edi_topo.specs.Ranking.{Ties}
 use Rattle.edi_rank.specs.inner.Layers.{LinkSource, placed_link_key, placed_link_cmp}

@@ -3,6 +3,7 @@ use Rattle.std.proofs.Common.{◌≡◌, ℕ, ◌+◌, ◌-◌, ◌<◌, Bool, t
 use Rattle.std.specs.Cmp.{IsTotalOrder}
 use Rattle.std.specs.List.{AllByRecursion, AllZip, list_any, slice_get}
 use Rattle.std.proofs.lemmas.List.Sorted.{IsPermutation-refl, IsPermutation-sym, IsPermutation-trans, IsPermutation-map}
+use Rattle.edi_line.proofs.EachElement.{each_in_any_order, each_mapped, each_weaker, each_from_places}
 use Rattle.edi_record.specs.declared.record.Kind.{Kind}
 use Rattle.edi_record.specs.declared.record.Kind.TheVariants.{Pno, Par, Pfe, Fea, Lnk}
 use Rattle.edi_schema.specs.Sorted.{sort_by}
@@ -22,11 +23,9 @@ use Rattle.edi_rank.specs.Laws.{TellsApart}
 use Rattle.edi_rank.specs.declared.keys.NumberedEnd.{NumberedEnd}
 use Rattle.edi_rank.specs.declared.keys.LinkKey.{LinkKey}
 use Rattle.edi_rank.specs.declared.keys.ObjectKey.{ObjectKey}
-use Rattle.edi_rank.proofs.ArrangedUnder.{all_along, all_mapped}
-use Rattle.edi_rank.proofs.KeysPreserved.{all_weaker, two_hold}
+use Rattle.edi_rank.proofs.KeysPreserved.{two_hold}
 use Rattle.edi_rank.proofs.ObjectsPreserved.{all_three}
 use Rattle.edi_rank.proofs.Orders.{end_total, end_exact, link_key_total, link_key_exact}
-use Rattle.edi_rank.proofs.Unique.{all_places}
 use Rattle.edi_rank.proofs.UpTo.{zip_moved}
 
 -- lists
@@ -65,7 +64,7 @@ known_up_to : {X Y : Type 0} (f : X → Y) (P : X → Type 0) (R : X → X → T
     → IsPermutation (map f ys) (map f xs) → SameUpTo R xs ys
 known_up_to {X} {Y} f P R key xs ys all all' same =
     let w = zip_moved (λ (y : Y) (x : X). y ≡ f x) (map f ys) (map f xs) ys same (zip_own f ys) in
-    (w.0, w.1, zip_known f P R key xs w.0 all (all_along P ys w.0 w.1 all') w.2)
+    (w.0, w.1, zip_known f P R key xs w.0 all (each_in_any_order P ys w.0 w.1 all') w.2)
 
 permuted_back : {X Y : Type 0} (f : X → Y) (P : X → Type 0) → ((x y : X) → P x → P y → f x ≡ f y → x ≡ y) → (xs ys : List X) → AllByRecursion P xs → AllByRecursion P ys
     → IsPermutation (map f xs) (map f ys) → IsPermutation xs ys
@@ -104,7 +103,7 @@ only_own t u only (x ∷ xs) one some = go (u x) (t x) refl refl (sym (count_by-
 
     go : (b d : Bool) → u x ≡ b → t x ≡ d → cond d 1 0 + count_by t xs ≡ 1 → (count_by t xs ≡ 1 → list_any u xs ≡ true → AllByRecursion (λ x. u x ≡ false → t x ≡ false) xs)
         → (u x ≡ false → t x ≡ false) × AllByRecursion (λ x. u x ≡ false → t x ≡ false) xs
-    go true true e f h more = (λ g. absurd (true≢false (sym e ∙ g)), all_weaker (λ x. t x ≡ false) (λ x. u x ≡ false → t x ≡ false) (λ x n g. n) xs (none_pass t xs (omega arith)))
+    go true true e f h more = (λ g. absurd (true≢false (sym e ∙ g)), each_weaker (λ x. t x ≡ false) (λ x. u x ≡ false → t x ≡ false) (λ x n g. n) xs (none_pass t xs (omega arith)))
     go true false e f h more = absurd (true≢false (sym (only x e) ∙ f))
     go false true e f h more = absurd (none_any t u only xs (none_pass t xs (omega arith)) (left (u x) refl e))
     go false false e f h more = (λ g. f, more (omega arith) (left (u x) refl e))
@@ -259,7 +258,7 @@ module _ (p : PlanData) (number : ℕ → ℕ) where
 
       ends_known : (xs : List PlanEnd) → AllByRecursion (λ e. Known (end_mark o e)) xs → IsOrigin (option_map (end_mark o) (first_of xs)) (map (end_mark o) (rest_of xs)) × AllByRecursion Known (map (end_mark o) (rest_of xs))
       ends_known [] all = (refl, tt)
-      ends_known (x ∷ xs) all = (all.0, all_mapped Known (end_mark o) xs all.1)
+      ends_known (x ∷ xs) all = (all.0, each_mapped Known (end_mark o) xs all.1)
 
       record_known : (k : ℕ) → IsPlace p k → is_piece p o (record_at p k) ≡ true → KnownPiece (piece o (record_at p k))
       record_known k h test =
@@ -267,7 +266,7 @@ module _ (p : PlanData) (number : ℕ → ℕ) where
           let parts = all_three (is_link (record_at p k).kind) (count_by (λ e. is_object (record_at p e.target).kind) xs == 1) (list_any (λ e. nat_eq e.target o) xs) test in
           let own = only_own (λ (e : PlanEnd). is_object (record_at p e.target).kind) (λ e. nat_eq e.target o) (λ e f. ap (λ j. is_object (record_at p j).kind) (eqb-true e.target o f) ∙ ap is_object object)
           xs (eqb-true _ _ parts.1) parts.2 in
-          ends_known xs (all_weaker (λ e. IsPlace p e.target × ((is_link (record_at p e.target).kind ≡ false) × (nat_eq e.target o ≡ false → is_object (record_at p e.target).kind ≡ false))) (λ e. Known (end_mark o e))
+          ends_known xs (each_weaker (λ e. IsPlace p e.target × ((is_link (record_at p e.target).kind ≡ false) × (nat_eq e.target o ≡ false → is_object (record_at p e.target).kind ≡ false))) (λ e. Known (end_mark o e))
           (λ e f. lower_end e f.0 f.1.0 f.1.1) xs (two_hold _ _ xs (whole.there k h) (two_hold _ _ xs (whole.no_link k h) own)))
 
       passing_known : (rs : List PlanRecord) → AllByRecursion (λ r. is_piece p o r ≡ true → KnownPiece (piece o r)) rs → AllByRecursion KnownPiece (filter_map (λ r. cond (is_piece p o r) (Some (piece o r)) None) rs)
@@ -280,7 +279,7 @@ module _ (p : PlanData) (number : ℕ → ℕ) where
           go false e more = rw e more
 
       pieces_known : AllByRecursion KnownPiece (pieces p o)
-      pieces_known = passing_known p.list (all_places (λ r. is_piece p o r ≡ true → KnownPiece (piece o r)) p.list blank record_known)
+      pieces_known = passing_known p.list (each_from_places (λ r. is_piece p o r ≡ true → KnownPiece (piece o r)) p.list blank record_known)
 
     pub one_key_equal : (m n : ℕ) → IsPlace p m → IsPlace p n → (record_at p m).kind ≡ Fea → (record_at p n).kind ≡ Fea → object_key p number m ≡ object_key p number n → AreEqualObjects p m n
     one_key_equal m n first second object object' e =

@@ -4,13 +4,14 @@ use Rattle.std.proofs.lemmas.Bool.{cases_order}
 use Rattle.std.proofs.lemmas.Cmp.{tied_itself}
 use Rattle.std.proofs.lemmas.Map.Lookups.{CmpEqualImpliesEq, exact_unsigned}
 use Rattle.edi_line.specs.Refusal.{IsUnbroken, IsLeastBroken}
+use Rattle.edi_line.proofs.Truths.{first_tied, then_tied}
 use Rattle.edi_record.specs.Orders.{extra_cmp}
 use Rattle.edi_record.specs.declared.record.Kind.TheVariants.{Fea}
 use Rattle.edi_plan.specs.Orders.{attribute_cmp}
 use Rattle.edi_plan.specs.Places.{places_of}
 use Rattle.edi_plan.specs.Plans.{PlanData}
 use Rattle.edi_plan.specs.Whole.{IsWholePlan}
-use Rattle.edi_plan.proofs.Orders.{first_tied, then_tied, exact_lists, attribute_exact, extra_exact}
+use Rattle.edi_plan.proofs.Orders.{exact_lists, attribute_exact, extra_exact}
 use Rattle.edi_plan.proofs.PlaceLemmas.{place_there, place_of_kind, places_rise, has_place}
 use Rattle.edi_topo.specs.Marks.{AreMarksOf, IsPlaceOfMark}
 use Rattle.edi_topo.specs.Ranking.{Ties}

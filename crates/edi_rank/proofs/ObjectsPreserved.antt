@@ -6,9 +6,9 @@ use Rattle.std.proofs.lemmas.Cmp.{nat_cmp_total}
 use Rattle.std.proofs.lemmas.List.Sorted.{IsPermutation-sym, IsPermutation-trans, IsPermutation-map}
 use Rattle.std.proofs.lemmas.Map.Lookups.{exact_unsigned}
 use Rattle.edi_line.specs.Refusal.{IsUnbroken}
+use Rattle.edi_line.proofs.EachElement.{each_from_places}
 use Rattle.edi_record.specs.Shapes.{may_have_ends}
-use Rattle.edi_record.specs.declared.record.Kind.{Kind}
-use Rattle.edi_record.specs.declared.record.Kind.TheVariants.{Pno, Par, Pfe, Fea, Lnk}
+use Rattle.edi_record.specs.declared.record.Kind.TheVariants.{Par, Fea}
 use Rattle.edi_schema.specs.Classes.{Classes, partner_of}
 use Rattle.edi_schema.specs.Roles.{is_plain}
 use Rattle.edi_schema.specs.Sorted.{sort_by}
@@ -16,6 +16,7 @@ use Rattle.edi_schema.specs.declared.role.Role.{Role}
 use Rattle.edi_schema.specs.declared.role.Role.TheVariants.{Initial, Final, Left, Right, Plain}
 use Rattle.edi_schema.proofs.SortedLists.{sort_by-same, IsPermutation-sort_by, counts_from_permutation, SameCounts}
 use Rattle.edi_record.specs.Records.{is_link}
+use Rattle.edi_record.proofs.KindCodes.{link_is}
 use Rattle.edi_plan.specs.Plans.{PlanData, IsPlace, record_at, blank, is_object, first_of, others_of}
 use Rattle.edi_plan.specs.Whole.{IsWholePlan}
 use Rattle.edi_plan.specs.declared.record.PlanRecord.{PlanRecord}
@@ -31,7 +32,6 @@ use Rattle.edi_rank.proofs.Gathered.{gathered_equal}
 use Rattle.edi_rank.proofs.Preserved.{joins_kept}
 use Rattle.edi_rank.proofs.KeysPreserved.{count_by-map, counted_equal}
 use Rattle.edi_rank.proofs.SameLaws.{list_any-map, passes_alike, map_alike, map-map, after_none, all_others, ends_moved, tested_before, same_sym}
-use Rattle.edi_rank.proofs.Unique.{all_places}
 use Rattle.edi_rank.proofs.UpTo.{up_to_sym, up_to_trans}
 
 -- tests and kinds
@@ -45,13 +45,6 @@ all_three false true true h = absurd (true≢false (sym h))
 all_three false true false h = absurd (true≢false (sym h))
 all_three false false true h = absurd (true≢false (sym h))
 all_three false false false h = absurd (true≢false (sym h))
-
-pub link_then : (k : Kind) → is_link k ≡ true → k ≡ Lnk
-link_then Pno h = absurd (true≢false (sym h))
-link_then Par h = absurd (true≢false (sym h))
-link_then Pfe h = absurd (true≢false (sym h))
-link_then Fea h = absurd (true≢false (sym h))
-link_then Lnk h = refl
 
 pub no_object_beside : (r : Role) → is_object (beside r) ≡ false
 no_object_beside Initial = refl
@@ -170,7 +163,7 @@ pieces_placed : (p : PlanData) (o : ℕ) → pieces p o ≡ map (λ j. piece o (
 pieces_placed p o = by_places (is_piece p o) (piece o) (record_at p) p.list 0 (λ i j e l. let f : j ≡ i = omega (arith, e) in ap (record_at p) f)
 
 all_within : (n : ℕ) → AllByRecursion (λ j. j < n) (places_from n 0)
-all_within n = all_places (λ j. j < n) (places_from n 0) 0 (λ i h. let l : i < n = omega (arith, h, places_long n 0) in omega (arith, l, place_here n i l))
+all_within n = each_from_places (λ j. j < n) (places_from n 0) 0 (λ i h. let l : i < n = omega (arith, h, places_long n 0) in omega (arith, l, place_here n i l))
 
 equal_back : (p : PlanData) (m n : ℕ) → AreEqualObjects p m n → AreEqualObjects p n m
 equal_back p m n a = record {
@@ -235,7 +228,7 @@ module _ (s : Classes) (p q : PlanData) (whole : IsWholePlan p) (joined : IsJoin
       go : (b : Bool) → is_plain (record_at p i).role ≡ b → b ≡ true
       go true e = refl
       go false e =
-          let join = joined.joins i (record { there = h; is_link = link_then (record_at p i).kind parts.0; not_plain = e }) in
+          let join = joined.joins i (record { there = h; is_link = link_is (record_at p i).kind parts.0; not_plain = e }) in
           absurd (neither join.arc join.other join.is_arc join.is_beside (met join.arc join.other join.ends))
 
   mark_kept : (m : ℕ) → IsPlace p m → (e : PlanEnd) → IsThere e → end_mark (to m) (moved to e) ≡ moved_mark to (end_mark m e)

@@ -1,6 +1,7 @@
 -- The keys of objects are those of the plan before the reversals.
 use Rattle.std.proofs.Common.{◌≡◌, ℕ, suc, ◌⊎◌, inl, inr, Bool, true, false, cond, ◌==◌, nat_eq, List, [], ◌∷◌, map, filter_map, length, Some, None, refl, ap, ap₂, ◌∙◌, subst, arith, count_by, eqb-true}
 use Rattle.std.specs.List.{AllByRecursion, list_any}
+use Rattle.edi_line.proofs.EachElement.{each_weaker}
 use Rattle.edi_record.specs.Shapes.{may_have_ends}
 use Rattle.edi_record.specs.declared.record.Kind.TheVariants.{Fea, Lnk}
 use Rattle.edi_schema.specs.Classes.{Classes, partner_of}
@@ -9,6 +10,7 @@ use Rattle.edi_schema.specs.Sorted.{sort_by}
 use Rattle.edi_schema.proofs.SortedLists.{count_by-cons}
 use Rattle.edi_plan.specs.Joined.{IsJoined, JoinsArc}
 use Rattle.edi_record.specs.Records.{is_link}
+use Rattle.edi_record.proofs.KindCodes.{link_is}
 use Rattle.edi_plan.specs.Plans.{PlanData, IsPlace, record_at, blank, is_object}
 use Rattle.edi_plan.specs.Whole.{IsWholePlan}
 use Rattle.edi_plan.specs.declared.record.PlanRecord.{PlanRecord}
@@ -18,9 +20,9 @@ use Rattle.edi_rank.specs.Labelling.{Labelling, turned_at, turned_by}
 use Rattle.edi_rank.specs.Same.{class_after}
 use Rattle.edi_rank.specs.Turned.{turned_record}
 use Rattle.edi_rank.proofs.Gathered.{gathered_same}
-use Rattle.edi_rank.proofs.KeysPreserved.{all_weaker, two_hold, counted_equal}
+use Rattle.edi_rank.proofs.KeysPreserved.{two_hold, counted_equal}
 use Rattle.edi_rank.proofs.ObjectKeys.{only_own}
-use Rattle.edi_rank.proofs.ObjectsPreserved.{all_three, link_then, no_object_beside}
+use Rattle.edi_rank.proofs.ObjectsPreserved.{all_three, no_object_beside}
 use Rattle.edi_rank.proofs.SameLaws.{map_alike}
 use Rattle.edi_rank.proofs.TurnedRecords.{record_turned, turned_long}
 
@@ -95,7 +97,7 @@ module _ (s : Classes) (p : PlanData) (whole : IsWholePlan p) (joined : IsJoined
     ends_answered k h one own =
         let xs = (record_at p k).ends in
         let others = only_own (object_end p) (λ e. nat_eq e.target o) (λ e f. ap (λ j. is_object (record_at p j).kind) (eqb-true e.target o f) ∙ ap is_object object) xs one own in
-        all_weaker (λ e. IsPlace p e.target × ((is_link (record_at p e.target).kind ≡ false) × (nat_eq e.target o ≡ false → is_object (record_at p e.target).kind ≡ false))) Known (λ e f. (f.0, f.1.0, f.1.1)) xs
+        each_weaker (λ e. IsPlace p e.target × ((is_link (record_at p e.target).kind ≡ false) × (nat_eq e.target o ≡ false → is_object (record_at p e.target).kind ≡ false))) Known (λ e f. (f.0, f.1.0, f.1.1)) xs
         (two_hold _ _ xs (whole.there k h) (two_hold _ _ xs (whole.no_link k h) others))
 
     key_stays : (k : ℕ) → IsPlace p k → is_piece p o (record_at p k) ≡ true → link_key made (marked number o) (turned_record (partner_of s) turned k (record_at p k)) ≡ link_key p (marked was o) (record_at p k)
@@ -103,7 +105,7 @@ module _ (s : Classes) (p : PlanData) (whole : IsWholePlan p) (joined : IsJoined
         let r = record_at p k in
         let parts = all_three (is_link r.kind) (count_by (object_end p) r.ends == 1) (list_any (λ e. nat_eq e.target o) r.ends) test in
         let one : count_by (object_end p) r.ends ≡ 1 = eqb-true _ _ parts.1 in
-        let plain = piece_is_plain k h (link_then r.kind parts.0) one in
+        let plain = piece_is_plain k h (link_is r.kind parts.0) one in
         let class : class_after (partner_of s) turned r ≡ r.class = ap (λ b. cond b r.class (cond (list_any (λ e. turned e.target) r.ends) (partner_of s r.class) r.class)) plain in
         let ends = ends_stay r.ends (ends_answered k h one parts.2) in
         let key = link_key p (marked was o) r in

@@ -6,10 +6,12 @@ use Rattle.std.specs.Option.{option_cmp}
 use Rattle.std.specs.Ordering.{ordering_reverse}
 use Rattle.std.proofs.lemmas.Cmp.{then_total, on_total, lists_total, nat_cmp_total}
 use Rattle.std.proofs.lemmas.Map.Lookups.{CmpEqualImpliesEq, exact_unsigned}
+use Rattle.edi_line.proofs.Truths.{first_tied, then_tied}
 use Rattle.edi_record.specs.Orders.{bytes_cmp, extra_cmp}
 use Rattle.edi_schema.specs.declared.role.Role.{Role}
 use Rattle.edi_schema.specs.declared.role.Role.TheVariants.{Initial, Final, Left, Right, Plain}
 use Rattle.edi_schema.specs.Roles.{role_rank}
+use Rattle.edi_schema.proofs.RoleTests.{one_role}
 use Rattle.edi_plan.specs.Plans.{kind_rank}
 use Rattle.edi_plan.proofs.PlaceLemmas.{one_kind}
 use Rattle.edi_rank.specs.declared.keys.NumberedEnd.{NumberedEnd}
@@ -18,7 +20,7 @@ use Rattle.edi_rank.specs.declared.keys.ObjectKey.{ObjectKey}
 use Rattle.edi_rank.specs.declared.keys.FaceKey.{FaceKey}
 use Rattle.edi_plan.specs.Orders.{attribute_cmp}
 use Rattle.edi_rank.specs.Keys.{end_cmp, link_key_cmp, object_key_cmp, face_key_cmp}
-use Rattle.edi_plan.proofs.Orders.{first_tied, then_tied, exact_lists, exact_options, bytes_total, bytes_exact, attribute_total, attribute_exact, extra_total, extra_exact}
+use Rattle.edi_plan.proofs.Orders.{exact_lists, exact_options, bytes_total, bytes_exact, attribute_total, attribute_exact, extra_total, extra_exact}
 
 pub role_by_rank : ℕ → Role
 role_by_rank zero = Initial
@@ -34,9 +36,6 @@ role_ranked Final = refl
 role_ranked Left = refl
 role_ranked Right = refl
 role_ranked Plain = refl
-
-pub one_role : (a b : Role) → role_rank a ≡ role_rank b → a ≡ b
-one_role a b h = sym (role_ranked a) ∙ (ap role_by_rank h ∙ role_ranked b)
 
 pub end_total : IsTotalOrder end_cmp
 end_total = then_total (on_total (λ (a : NumberedEnd). kind_rank a.kind) nat_cmp_total) (then_total (on_total (λ (a : NumberedEnd). a.number) nat_cmp_total) (on_total (λ (a : NumberedEnd). a.sns) (options_total bytes_total)))

@@ -1,5 +1,5 @@
 -- Positions that put ends in order: how they are found, what they make of keys, and when they stay.
-use Rattle.std.proofs.Common.{◌≡◌, ◌≢◌, ◌⊎◌, inl, inr, set, ℕ, zero, suc, ◌+◌, ◌-◌, ◌<◌, ◌≤◌, Bool, true, false, cond, true≢false, List, [], ◌∷◌, ◌++◌, map, length, get_or, take, drop, refl, add-one, sym, ap, ap₂, ◌∙◌, subst, arith, IsPermutation, IsSorted, Ordering, Less, Equal, Greater, is_gt, nat_cmp}
+use Rattle.std.proofs.Common.{◌≡◌, ◌≢◌, ◌⊎◌, inl, inr, set, ℕ, zero, suc, ◌+◌, ◌-◌, ◌<◌, ◌≤◌, Bool, true, false, cond, true≢false, List, [], ◌∷◌, ◌++◌, map, length, get_or, take, drop, refl, add-one, sym, ap, ap₂, ◌∙◌, subst, arith, IsPermutation, IsSorted, Ordering, is_gt, nat_cmp}
 use Rattle.std.specs.Cmp.{IsTotalOrder}
 use Rattle.std.specs.List.{AllByRecursion}
 use Rattle.std.specs.Ordering.{ordering_then}
@@ -9,6 +9,8 @@ use Rattle.std.proofs.lemmas.List.{append_assoc, get_or_append_left, get_or-map,
 use Rattle.std.proofs.lemmas.List.Elements.{All-from_recursion, All-get_or, recursion_from_All}
 use Rattle.std.proofs.lemmas.List.Sorted.{All-permutation, IsPermutation-map, IsPermutation-refl}
 use Rattle.std.proofs.lemmas.Map.Lookups.{exact_unsigned}
+use Rattle.edi_line.proofs.EachElement.{each_in_any_order, each_mapped, each_weaker}
+use Rattle.edi_line.proofs.Truths.{first_not_greater}
 use Rattle.edi_record.specs.Orders.{text_cmp}
 use Rattle.edi_record.specs.declared.record.Kind.{Kind}
 use Rattle.edi_record.specs.declared.record.Kind.TheVariants.{Pno, Par, Pfe, Fea, Lnk}
@@ -17,16 +19,14 @@ use Rattle.edi_schema.proofs.SortedLists.{count_by-cons, counts_from_permutation
 use Rattle.edi_plan.specs.Plans.{PlanData, record_at, kind_rank, is_object, rest_of}
 use Rattle.edi_plan.specs.declared.record.PlanEnd.{PlanEnd}
 use Rattle.edi_plan.proofs.PlaceLemmas.{one_kind}
-use Rattle.edi_topo.specs.inner.Keyed.{keyed}
+use Rattle.edi_topo.specs.Ranking.{keyed}
 use Rattle.edi_topo.proofs.KeyOrder.{AreMembers}
 use Rattle.edi_rank.specs.EndOrder.{GivesEach, PutsInOrder, ends_at, no_end}
 use Rattle.edi_rank.specs.Keys.{end_cmp, ends_key, numbered}
 use Rattle.edi_rank.specs.Pieces.{object_count}
 use Rattle.edi_rank.specs.contracts.keys.NumberedEndOrd.TheImpl.{ghosts as numbered_ends}
 use Rattle.edi_rank.specs.declared.keys.NumberedEnd.{NumberedEnd}
-use Rattle.edi_rank.proofs.ArrangedUnder.{all_along, all_mapped}
 use Rattle.edi_rank.proofs.KeyOrders.{end_order}
-use Rattle.edi_rank.proofs.KeysPreserved.{all_weaker}
 use Rattle.edi_rank.proofs.Orders.{end_total, end_exact}
 use Rattle.edi_rank.proofs.Renumbered.{then_alike}
 use Rattle.edi_rank.proofs.SameLaws.{map_alike, map-map}
@@ -40,7 +40,7 @@ pub length-ends_at : (positions : List ℕ) (ends : List PlanEnd) → GivesEach 
 length-ends_at positions ends given = Rattle.std.proofs.lemmas.List.Sorted.length_permutation ends (ends_at positions ends) given.each
 
 pub hold_at : (P : PlanEnd → Type 0) (positions : List ℕ) (ends : List PlanEnd) → GivesEach positions ends → AllByRecursion P ends → AllByRecursion P (ends_at positions ends)
-hold_at P positions ends given all = all_along P ends (ends_at positions ends) given.each all
+hold_at P positions ends given all = each_in_any_order P ends (ends_at positions ends) given.each all
 
 pub rest_hold : (P : PlanEnd → Type 0) (ends : List PlanEnd) → AllByRecursion P ends → AllByRecursion P (rest_of ends)
 rest_hold P [] all = tt
@@ -115,16 +115,11 @@ pair_order a b = ap (λ o. ordering_then o (nat_cmp a.1 b.1)) (end_order a.0 b.0
 pub pair_total : IsTotalOrder pair_cmp
 pair_total = then_total (on_total (λ (a : NumberedEnd × ℕ). a.0) end_total) (on_total (λ (a : NumberedEnd × ℕ). a.1) nat_cmp_total)
 
-first_not_greater : (o q : Ordering) → is_gt (ordering_then o q) ≡ false → is_gt o ≡ false
-first_not_greater Less q h = refl
-first_not_greater Equal q h = refl
-first_not_greater Greater q h = h
-
 firsts_never_fall : (pairs : List (NumberedEnd × ℕ)) → NeverFalls pair_cmp pairs → NeverFalls end_cmp (map (λ pair. pair.0) pairs)
 firsts_never_fall [] up = tt
 firsts_never_fall (x ∷ pairs) up = (
-  all_mapped (λ y. is_gt (end_cmp x.0 y) ≡ false) (λ (pair : NumberedEnd × ℕ). pair.0) pairs
-      (all_weaker (λ y. is_gt (pair_cmp x y) ≡ false) (λ (y : NumberedEnd × ℕ). is_gt (end_cmp x.0 y.0) ≡ false) (λ y h. first_not_greater (end_cmp x.0 y.0) (nat_cmp x.1 y.1) h) pairs up.0),
+  each_mapped (λ y. is_gt (end_cmp x.0 y) ≡ false) (λ (pair : NumberedEnd × ℕ). pair.0) pairs
+      (each_weaker (λ y. is_gt (pair_cmp x y) ≡ false) (λ (y : NumberedEnd × ℕ). is_gt (end_cmp x.0 y.0) ≡ false) (λ y h. first_not_greater (end_cmp x.0 y.0) (nat_cmp x.1 y.1) h) pairs up.0),
   firsts_never_fall pairs up.1,
 )
 
@@ -155,7 +150,7 @@ module _ (p : PlanData) (number : ℕ → ℕ) (ends : List PlanEnd) where
   pub pairs_in_order : (pairs : List (NumberedEnd × ℕ)) → 0 < length ends → IsPermutation (keyed end_key (length ends)) pairs → IsSorted derived_pair_cmp pairs → PutsInOrder p number (map (λ pair. pair.1) pairs) ends
   pairs_in_order pairs some same sorted = (
     record {
-      within = all_mapped (λ i. i < length ends) (λ (pair : NumberedEnd × ℕ). pair.1) pairs (all_weaker IsOwn (λ pair. pair.1 < length ends) (λ pair h. h.0) pairs own);
+      within = each_mapped (λ i. i < length ends) (λ (pair : NumberedEnd × ℕ). pair.1) pairs (each_weaker IsOwn (λ pair. pair.1 < length ends) (λ pair h. h.0) pairs own);
       each = subst (IsPermutation ends) (sym there) (subst (λ xs. IsPermutation xs (map (λ pair. end_at ends pair.1) pairs)) all_ends (IsPermutation-map (λ (pair : NumberedEnd × ℕ). end_at ends pair.1) _ _ same));
     },
     subst (NeverFalls end_cmp) keys (firsts_never_fall pairs (never_falls_from_sorted pair_cmp pair_total pairs (subst (λ cmp. IsSorted cmp pairs) (λ i a b. pair_order a b i) sorted))),
@@ -242,7 +237,7 @@ module _ (p : PlanData) (one other : ℕ → ℕ) where
       go true is =
           let count = count_by-cons is_object_end x xs in
           let here = ap (λ (b : Bool). cond {A = ℕ} b 1 0) is in
-          all_weaker (λ e. is_object_end e ≡ false) (λ e. is_object_end x ≡ true → is_object_end e ≡ false) (λ e g f. g) xs (none_more xs (omega (arith, count, here, h)))
+          each_weaker (λ e. is_object_end e ≡ false) (λ e. is_object_end x ≡ true → is_object_end e ≡ false) (λ e g f. g) xs (none_more xs (omega (arith, count, here, h)))
       go false is = each_of (λ e f. absurd (true≢false (sym f ∙ is))) xs
 
   never_fall_still : (xs : List PlanEnd) → object_count p xs ≤ 1 → AllByRecursion Renumbered xs → NeverFalls end_cmp (map (numbered p one) xs) → NeverFalls end_cmp (map (numbered p other) xs)

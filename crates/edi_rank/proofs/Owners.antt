@@ -2,6 +2,7 @@
 use Rattle.std.proofs.Common.{◌≡◌, ◌≢◌, ℕ, Bool, true, false, true≢false, ◌||◌, nat_eq, List, [], ◌∷◌, Option, Some, None, refl, sym, ap, ◌∙◌, eqb-true, eq-eqb, ne_eqb}
 use Rattle.std.specs.List.{AllByRecursion, list_any}
 use Rattle.std.specs.Option.{MatchOption}
+use Rattle.edi_line.proofs.EachElement.{each_weaker}
 use Rattle.edi_record.specs.declared.record.Kind.TheVariants.{Lnk}
 use Rattle.edi_plan.specs.Plans.{PlanData, IsPlace, record_at, is_object}
 use Rattle.edi_plan.specs.declared.record.PlanRecord.{PlanRecord}
@@ -9,7 +10,6 @@ use Rattle.edi_plan.specs.declared.record.PlanEnd.{PlanEnd}
 use Rattle.edi_rank.specs.Keys.{is_piece}
 use Rattle.edi_rank.specs.Pieces.{object_count}
 use Rattle.edi_rank.specs.inner.Pieces.{is_owner}
-use Rattle.edi_rank.proofs.KeysPreserved.{all_weaker}
 use Rattle.edi_rank.proofs.ObjectKeys.{only_own}
 
 nothing_found : {X : Type 0} (v : X → Bool) (xs : List X) → AllByRecursion (λ x. v x ≡ false) xs → list_any v xs ≡ true → ⊥
@@ -24,7 +24,7 @@ owner_is p r (Some k) link one object is = rw (link, eq-eqb (object_count p r.en
   where
     own : AllByRecursion (λ (e : PlanEnd). nat_eq e.target object ≡ false → is_object (record_at p e.target).kind ≡ false) r.ends → nat_eq k object ≡ false → ⊥
     own all differs = nothing_found (λ (e : PlanEnd). nat_eq e.target k) r.ends
-        (all_weaker (λ (e : PlanEnd). nat_eq e.target object ≡ false → is_object (record_at p e.target).kind ≡ false) (λ e. nat_eq e.target k ≡ false)
+        (each_weaker (λ (e : PlanEnd). nat_eq e.target object ≡ false → is_object (record_at p e.target).kind ≡ false) (λ e. nat_eq e.target k ≡ false)
         (λ e h. not_own e h (nat_eq e.target k) refl) r.ends all) one.3
       where
         not_own : (e : PlanEnd) → (nat_eq e.target object ≡ false → is_object (record_at p e.target).kind ≡ false) → (b : Bool) → nat_eq e.target k ≡ b → b ≡ false

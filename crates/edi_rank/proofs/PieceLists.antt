@@ -1,10 +1,10 @@
 -- The links that are pieces of each object, gathered in one pass.
 use Rattle.std.proofs.Common.{◌≡◌, ℕ, zero, suc, ◌+◌, ◌<◌, ◌≤◌, ◌⊎◌, inl, inr, Bool, true, false, cond, nat_eq, List, [], ◌∷◌, ◌++◌, map, filter_map, length, get_or, set, drop, Some, refl, sym, ap, ap₂, ◌∙◌, subst, arith, add-one, eqb-true, eq-eqb, ne_eqb}
 use Rattle.std.specs.List.{AllByRecursion}
-use Rattle.std.proofs.lemmas.Bool.{cases_eq}
+use Rattle.std.proofs.lemmas.Bool.{cases_eq, and_parts}
 use Rattle.std.proofs.lemmas.List.{get_or-set_same, get_or-set_other, append_assoc}
+use Rattle.edi_line.proofs.EachElement.{each_weaker}
 use Rattle.edi_schema.proofs.SortedLists.{count_by-cons}
-use Rattle.edi_plan.proofs.Built.{both_true}
 use Rattle.edi_plan.specs.Plans.{PlanData, IsPlace, record_at, blank, is_object, others_of, rest_of}
 use Rattle.edi_plan.specs.declared.record.PlanRecord.{PlanRecord}
 use Rattle.edi_plan.specs.declared.record.PlanEnd.{PlanEnd}
@@ -12,7 +12,6 @@ use Rattle.edi_rank.specs.Keys.{is_piece, marked, piece_by, link_key}
 use Rattle.edi_rank.specs.Pieces.{object_count}
 use Rattle.edi_rank.specs.inner.Pieces.{is_owner, pieces_from, piece_places}
 use Rattle.edi_rank.specs.declared.keys.LinkKey.{LinkKey}
-use Rattle.edi_rank.proofs.KeysPreserved.{all_weaker}
 
 drop_here : {X : Type 0} (xs : List X) (n : ℕ) (d : X) → n < length xs → drop n xs ≡ get_or xs n d ∷ drop (suc n) xs
 drop_here [] n d h = absurd (omega (arith, h))
@@ -76,7 +75,7 @@ module _ (p : PlanData) (o : ℕ) where
   IsOwnPlace k = IsPlace p k × (object_count p (others_of (record_at p k)) ≤ 1)
 
   few_others : (r : PlanRecord) → is_piece p o r ≡ true → object_count p (others_of r) ≤ 1
-  few_others r h = go r.ends (eqb-true (object_count p r.ends) 1 (both_true _ _ (both_true _ _ h).0).1)
+  few_others r h = go r.ends (eqb-true (object_count p r.ends) 1 (and_parts _ _ (and_parts _ _ h).0).1)
     where
       go : (ends : List PlanEnd) → object_count p ends ≡ 1 → object_count p (rest_of ends) ≤ 1
       go [] e = omega arith
@@ -95,7 +94,7 @@ module _ (p : PlanData) (o : ℕ) where
       go false e more = more
 
   pub pieces_with : (P : ℕ → Type 0) → ((k : ℕ) → IsPlace p k → object_count p (others_of (record_at p k)) ≤ 1 → P k) → AllByRecursion P (piece_places p o)
-  pieces_with P each = all_weaker IsOwnPlace P (λ k h. each k h.0 h.1) (piece_places p o) (own_from 0 p.list (omega arith) (λ i h. let e : 0 + i ≡ i = omega arith in ap (record_at p) e))
+  pieces_with P each = each_weaker IsOwnPlace P (λ k h. each k h.0 h.1) (piece_places p o) (own_from 0 p.list (omega arith) (λ i h. let e : 0 + i ≡ i = omega arith in ap (record_at p) e))
 
   module _ (number : ℕ → ℕ) (own : number o ≡ 0) where
     unmarked : marked number o ≡ number

@@ -1,12 +1,13 @@
 -- What is kept from a plan to each plan that is the same: the sides of its arcs, the rules of topology, its joins.
-use Rattle.std.proofs.Common.{◌≡◌, ◌≢◌, ℕ, suc, ◌+◌, ◌<◌, ◌≤◌, Bool, true, false, cond, ◌||◌, List, [], ◌∷◌, ◌++◌, map, reverse, length, get_or, option_map, refl, sym, ap, ap₂, ◌∙◌, subst, arith, ◌⊎◌, inl, inr, IsPermutation, count_by, true≢false, eqb-true}
+use Rattle.std.proofs.Common.{◌≡◌, ◌≢◌, ℕ, suc, ◌+◌, ◌<◌, ◌≤◌, Bool, true, false, cond, List, [], ◌∷◌, ◌++◌, map, reverse, length, get_or, option_map, refl, sym, ap, ap₂, ◌∙◌, subst, arith, ◌⊎◌, inl, inr, IsPermutation, count_by, true≢false, eqb-true}
 use mathlib.Core.List.{reverse-cons}
 use Rattle.std.specs.List.{list_any, AllByRecursion}
-use Rattle.std.proofs.lemmas.Bool.{cases_order}
+use Rattle.std.proofs.lemmas.Bool.{cases_order, false_from_ne_true}
 use Rattle.std.proofs.lemmas.List.{reverse-reverse, reverse-append}
 use Rattle.std.proofs.lemmas.List.Elements.{recursion_from_All, All-from_recursion}
 use Rattle.std.proofs.lemmas.List.Sorted.{All-permutation, length_permutation, IsPermutation-sym, IsPermutation-trans}
 use Rattle.edi_line.specs.Refusal.{IsUnbroken}
+use Rattle.edi_line.proofs.Truths.{or_false}
 use Rattle.edi_record.specs.declared.record.Point.{Point}
 use Rattle.edi_record.specs.declared.record.Kind.{Kind}
 use Rattle.edi_record.specs.declared.record.Kind.TheVariants.{Pno, Par, Pfe}
@@ -27,20 +28,11 @@ use Rattle.edi_topo.specs.TopologyRules.BreaksTopologyRule.{starts_elsewhere, en
 use Rattle.edi_rank.specs.Same.{has_turned_arc, directed, moved, Carries, Same}
 use Rattle.edi_rank.specs.Laws.{IsPlanUnder}
 use Rattle.edi_plan.specs.Joined.{beside, HasEnds, JoinsArc, IsJoin, IsJoined}
-use Rattle.edi_rank.proofs.SameLaws.{list_any-map, not_true, role_at, same_sym}
+use Rattle.edi_rank.proofs.SameLaws.{list_any-map, role_at, same_sym}
 use Rattle.edi_schema.proofs.SortedLists.{count_by-cons, counts_from_permutation, sort_by-same}
+use Rattle.edi_schema.proofs.RoleTests.{is_plain_not, not_plain}
 
 -- roles
-
-not_plain_then : (r : Role) → r ≢ Plain → is_plain r ≡ false
-not_plain_then Initial ne = refl
-not_plain_then Final ne = refl
-not_plain_then Left ne = refl
-not_plain_then Right ne = refl
-not_plain_then Plain ne = absurd (ne refl)
-
-plain_not : (r : Role) → is_plain r ≡ false → r ≢ Plain
-plain_not r e f = true≢false (sym (ap is_plain f) ∙ e)
 
 -- the role as an arc that is reversed has it
 abbrev pub role_turned : Bool → Role → Role
@@ -76,10 +68,6 @@ beside_no_arc Final = refl
 beside_no_arc Left = refl
 beside_no_arc Right = refl
 beside_no_arc Plain = refl
-
-or_false : (b : Bool) → b || false ≡ b
-or_false true = refl
-or_false false = refl
 
 -- two ends
 
@@ -153,7 +141,7 @@ Broken p = (rule at : ℕ) × BreaksTopologyRule p rule at
 
 module _ (s : Classes) (p q : PlanData) (whole : IsWholePlan p) (to : ℕ → ℕ) (turned : ℕ → Bool) (c : Carries s to turned p q) where
   straight : (i : ℕ) → IsPlace p i → (kind : Kind) → (record_at p i).kind ≡ kind → is_arc kind ≡ false → turned i ≡ false
-  straight i h kind is plain = not_true (turned i) (λ t. true≢false (ap is_arc (sym (c.arcs i h t)) ∙ (ap is_arc is ∙ plain)))
+  straight i h kind is plain = false_from_ne_true (turned i) (λ t. true≢false (ap is_arc (sym (c.arcs i h t)) ∙ (ap is_arc is ∙ plain)))
 
   -- a node has no ends, so its class stays
   node_class : (i : ℕ) → IsPlace p i → (record_at p i).kind ≡ Pno → (record_at q (to i)).class ≡ (record_at p i).class
@@ -205,7 +193,7 @@ module _ (s : Classes) (p q : PlanData) (under : IsPlanUnder s p) (under' : IsPl
 
   module _ (k a x : ℕ) (join : IsJoin p k) (arc : (record_at p a).kind ≡ Par) (ends : HasEnds p k a x) where
     other_straight : turned x ≡ false
-    other_straight = not_true (turned x) (λ t. go (ap is_arc (c.arcs x (ends_there k a x join.there ends).1 t)) ends)
+    other_straight = false_from_ne_true (turned x) (λ t. go (ap is_arc (c.arcs x (ends_there k a x join.there ends).1 t)) ends)
       where
         go : is_arc (record_at p x).kind ≡ true → HasEnds p k a x → ⊥
         go is (inl e) = both_count (λ i. is_arc (record_at p i).kind) (record_at p k).ends a x e (ap is_arc arc) is (under.whole.one_arc k join.there join.not_plain)
@@ -235,14 +223,14 @@ module _ (s : Classes) (p q : PlanData) (under : IsPlanUnder s p) (under' : IsPl
     there = c.places.within d.link d.there;
     is_link = kind_kept d.link d.there ∙ d.is_link;
     has_role = role_kept d.link a x join d.is_arc d.ends ∙ ap (role_turned (turned a)) d.has_role;
-    not_plain = plain_not (role_turned (turned a) role) (plain_turned (turned a) role ∙ not_plain_then role d.not_plain);
+    not_plain = not_plain (role_turned (turned a) role) (plain_turned (turned a) role ∙ is_plain_not role d.not_plain);
     arc_there = c.places.within a d.arc_there;
     is_arc = kind_kept a d.arc_there ∙ d.is_arc;
     ends = ends_kept d.link a x d.there d.ends;
   }
     where
       join : IsJoin p d.link
-      join = record { there = d.there; is_link = d.is_link; not_plain = ap is_plain d.has_role ∙ not_plain_then role d.not_plain }
+      join = record { there = d.there; is_link = d.is_link; not_plain = ap is_plain d.has_role ∙ is_plain_not role d.not_plain }
 
   pub points_kept : (kind : Kind) (i : ℕ) (points : List Point) → HasPoints p kind i points → HasPoints q kind (to i) (directed (turned i) points)
   points_kept kind i points h = (c.places.within i h.0, kind_kept i h.0 ∙ h.1, (c.each i h.0).points ∙ ap (directed (turned i)) h.2)

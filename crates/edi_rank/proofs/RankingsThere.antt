@@ -9,8 +9,7 @@ use Rattle.std.proofs.lemmas.List.{get_or-map, get_or_append_left, get_or_push, 
 use Rattle.std.proofs.lemmas.List.Sorted.{IsPermutation-sym}
 use Rattle.edi_schema.specs.Sorted.{sort_by, NeverFalls}
 use Rattle.edi_schema.proofs.SortedLists.{IsPermutation-sort_by, NeverFalls-sort_by}
-use Rattle.edi_topo.specs.Ranking.{IsRanking, Ties, rank}
-use Rattle.edi_topo.specs.inner.Keyed.{keyed}
+use Rattle.edi_topo.specs.Ranking.{keyed, IsRanking, Ties, rank}
 use Rattle.edi_topo.proofs.KeyOrder.{long, each_member, number_at}
 use Rattle.edi_topo.proofs.KeyTies.{follower_ties}
 use Rattle.edi_topo.proofs.RankOrder.{rank_within, equal_ranks}

@@ -6,6 +6,7 @@ use Rattle.std.specs.Option.{option_cmp}
 use Rattle.std.specs.Ordering.{ordering_then}
 use Rattle.std.proofs.lemmas.Bool.{cases_order}
 use Rattle.std.proofs.lemmas.Map.Lookups.{exact_unsigned}
+use Rattle.edi_line.proofs.EachElement.{each_mapped, each_weaker}
 use Rattle.edi_record.specs.Orders.{text_cmp, extra_cmp}
 use Rattle.edi_record.specs.declared.record.Kind.{Kind}
 use Rattle.edi_record.specs.declared.record.Kind.TheVariants.{Pno, Par, Pfe, Fea, Lnk}
@@ -21,8 +22,6 @@ use Rattle.edi_rank.specs.declared.keys.NumberedEnd.{NumberedEnd}
 use Rattle.edi_rank.specs.declared.keys.LinkKey.{LinkKey}
 use Rattle.edi_rank.specs.declared.keys.ObjectKey.{ObjectKey}
 use Rattle.edi_rank.specs.declared.keys.FaceKey.{FaceKey}
-use Rattle.edi_rank.proofs.ArrangedUnder.{all_mapped}
-use Rattle.edi_rank.proofs.KeysPreserved.{all_weaker}
 use Rattle.edi_rank.proofs.SameLaws.{map-map}
 
 -- orders
@@ -64,7 +63,7 @@ module _ {X Y : Type 0} (cmp : X → X → Ordering) (cmp' : Y → Y → Orderin
   pub never-map : (xs : List X) → NeverFalls cmp xs → NeverFalls cmp' (map f xs)
   never-map [] up = tt
   never-map (x ∷ xs) up =
-      (all_mapped (λ y. is_gt (cmp' (f x) y) ≡ false) f xs (all_weaker (λ y. is_gt (cmp x y) ≡ false) (λ y. is_gt (cmp' (f x) (f y)) ≡ false) (λ y h. ap is_gt (same x y) ∙ h) xs up.0), never-map xs up.1)
+      (each_mapped (λ y. is_gt (cmp' (f x) y) ≡ false) f xs (each_weaker (λ y. is_gt (cmp x y) ≡ false) (λ y. is_gt (cmp' (f x) (f y)) ≡ false) (λ y h. ap is_gt (same x y) ∙ h) xs up.0), never-map xs up.1)
 
   option-map : (x y : Option X) → option_cmp cmp' (option_map f x) (option_map f y) ≡ option_cmp cmp x y
   option-map None None = refl

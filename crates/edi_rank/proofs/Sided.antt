@@ -1,6 +1,7 @@
 -- The sides that faces have on arcs, by the links that put them there.
 use Rattle.std.proofs.Common.{◌≡◌, ℕ, ◌⊎◌, inl, inr, Bool, true, false, cond, true≢false, not, ◌||◌, ◌&&◌, ◌==◌, List, [], ◌∷◌, map, length, Option, Some, None, option_map, option_and_then, refl, sym, ap, ap₂, ◌∙◌, subst, arith, eqb-true, eq-eqb, suc}
 use Rattle.std.specs.List.{AllByRecursion, list_any}
+use Rattle.std.proofs.lemmas.Bool.{and_parts}
 use Rattle.edi_record.specs.Shapes.{may_have_ends}
 use Rattle.edi_record.specs.declared.record.Kind.{Kind}
 use Rattle.edi_record.specs.declared.record.Kind.TheVariants.{Pno, Par, Pfe, Fea, Lnk}
@@ -77,11 +78,6 @@ face_beside r (inr e) = ap beside e
 
 -- tests
 
-both_true : (a b : Bool) → a && b ≡ true → (a ≡ true) × (b ≡ true)
-both_true true true e = (refl, refl)
-both_true true false e = absurd (true≢false (sym e))
-both_true false b e = absurd (true≢false (sym e))
-
 the_first : (b : Bool) → b || (false || false) ≡ b
 the_first true = refl
 the_first false = refl
@@ -147,10 +143,10 @@ module _ (q : PlanData) (number : ℕ → ℕ) (face : ℕ) where
       go : (b c : Bool) → is_arc (record_at q d.target).kind && (e.target == face) ≡ b → is_arc (record_at q e.target).kind && (d.target == face) ≡ c
           → cond b (Some (number d.target)) (cond c (Some (number e.target)) None) ≡ Some n → HasArc q number face (d ∷ e ∷ []) n
       go true c i j h =
-          let both = both_true (is_arc (record_at q d.target).kind) (e.target == face) i in
+          let both = and_parts (is_arc (record_at q d.target).kind) (e.target == face) i in
           record { arc = d.target; there = all.0; is = both.0; both = inl (ap (λ x. d.target ∷ x ∷ []) (eqb-true e.target face both.1)); number_is = cc }
       go false true i j h =
-          let both = both_true (is_arc (record_at q e.target).kind) (d.target == face) j in
+          let both = and_parts (is_arc (record_at q e.target).kind) (d.target == face) j in
           record { arc = e.target; there = all.1.0; is = both.0; both = inr (ap (λ x. x ∷ e.target ∷ []) (eqb-true d.target face both.1)); number_is = cc }
       go false false i j h = cc
 

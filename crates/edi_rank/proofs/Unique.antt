@@ -1,9 +1,11 @@
 -- Two plans in order of which one carries onto the other are equal.
-use Rattle.std.proofs.Common.{◌≡◌, ◌≢◌, ℕ, zero, suc, pred, ◌<◌, Bool, true, false, cond, List, [], ◌∷◌, map, reverse, length, get_or, filter_map, Option, Some, None, option_map, refl, sym, ap, ap₂, ◌∙◌, subst, arith, ◌⊎◌, inl, inr, IsPermutation, true≢false, Ordering, Less, Equal, Greater, is_gt, is_lt, eqb-true}
+use Rattle.std.proofs.Common.{◌≡◌, ◌≢◌, ℕ, zero, suc, pred, ◌<◌, Bool, true, false, cond, List, [], ◌∷◌, map, reverse, length, get_or, filter_map, Option, Some, None, option_map, refl, sym, ap, ap₂, ◌∙◌, subst, arith, ◌⊎◌, inl, inr, IsPermutation, true≢false, Less, is_gt, eqb-true}
 use Rattle.std.specs.List.{AllByRecursion}
 use Rattle.std.specs.Option.{option_cmp}
 use Rattle.std.proofs.lemmas.Bool.{cases_order}
 use Rattle.std.proofs.lemmas.List.{reverse-reverse}
+use Rattle.edi_line.proofs.EachElement.{each_weaker, each_from_places}
+use Rattle.edi_line.proofs.Truths.{less_is}
 use Rattle.edi_record.specs.Orders.{points_cmp}
 use Rattle.edi_record.specs.Shapes.{may_have_points}
 use Rattle.edi_record.specs.declared.record.Kind.{Kind}
@@ -12,6 +14,7 @@ use Rattle.edi_record.specs.declared.record.Point.{Point}
 use Rattle.edi_schema.specs.Classes.{Classes, role_of}
 use Rattle.edi_schema.specs.Sorted.{NeverFalls}
 use Rattle.edi_record.specs.Records.{is_link}
+use Rattle.edi_record.proofs.KindCodes.{link_is}
 use Rattle.edi_plan.specs.Plans.{PlanData, record_at, blank, kind_rank, is_arc, is_object, first_of, rest_of, others_of}
 use Rattle.edi_plan.specs.declared.record.PlanRecord.{PlanRecord}
 use Rattle.edi_plan.specs.declared.record.PlanEnd.{PlanEnd}
@@ -32,7 +35,7 @@ use Rattle.edi_plan.proofs.PlaceLemmas.{one_kind}
 use Rattle.edi_topo.proofs.NodeOrders.{node_key_total}
 use Rattle.edi_rank.proofs.Orders.{end_total, end_exact, link_key_total, link_key_exact, face_options_total, object_key_total, not_both_less}
 use Rattle.edi_rank.proofs.Preserved.{node_key_preserved}
-use Rattle.edi_rank.proofs.KeysPreserved.{Kept, kept_from, link_key_preserved, others_kept, face_key_preserved, object_key_preserved, all_weaker, two_hold}
+use Rattle.edi_rank.proofs.KeysPreserved.{Kept, kept_from, link_key_preserved, others_kept, face_key_preserved, object_key_preserved, two_hold}
 
 arc_rank : (k : Kind) → is_arc k ≡ true → kind_rank k ≡ 1
 arc_rank Pno h = absurd (true≢false (sym h))
@@ -72,11 +75,6 @@ no_points Pfe (x ∷ xs) h g = absurd (true≢false (sym g))
 no_points Fea (x ∷ xs) h g = absurd (true≢false (sym g))
 no_points Lnk (x ∷ xs) h g = let e : suc (length xs) ≡ 0 = eqb-true _ _ h in absurd (omega (arith, e))
 
-less_then : (o : Ordering) → is_lt o ≡ true → o ≡ Less
-less_then Less h = refl
-less_then Equal h = absurd (true≢false (sym h))
-less_then Greater h = absurd (true≢false (sym h))
-
 -- an end and a link, from their keys
 
 end_of : NumberedEnd → PlanEnd
@@ -103,13 +101,6 @@ link_back s p e kind role points attributes others =
     let t = sort_by-in_order attribute_cmp attribute_total attribute_exact e.attributes attributes in
     λ i. record { kind = sym kind i; class = e.class; role = sym role i; points = sym points i; attributes = t i; extras = e.extras; ends = x i }
 
-is_link_then : (k : Kind) → is_link k ≡ true → k ≡ Lnk
-is_link_then Pno h = absurd (true≢false (sym h))
-is_link_then Par h = absurd (true≢false (sym h))
-is_link_then Pfe h = absurd (true≢false (sym h))
-is_link_then Fea h = absurd (true≢false (sym h))
-is_link_then Lnk h = refl
-
 -- the links of a list, and their keys
 
 abbrev link_or_none : PlanRecord → Option PlanRecord
@@ -126,11 +117,6 @@ links_from_keys s p (e ∷ es) all = go (is_link e.kind) refl (links_from_keys s
     go true h more = rw h (ap₂ ◌∷◌ (sym (all.0 h)) more)
     go false h more = rw h more
 
--- what holds of each place, by recursion
-pub all_places : {X : Type 0} (P : X → Type 0) (xs : List X) (d : X) → ((i : ℕ) → i < length xs → P (get_or xs i d)) → AllByRecursion P xs
-all_places P [] d h = tt
-all_places P (x ∷ xs) d h = (h 0 (omega arith), all_places P xs d (λ i l. h (suc i) (omega arith)))
-
 -- keys of links that never fall, from their places
 keys_never_fall : (p : PlanData) (es : List PlanRecord) (d : PlanRecord)
     → ((i k : ℕ) → i < k → k < length es → (get_or es i d).kind ≡ Lnk → (get_or es k d).kind ≡ Lnk → is_gt (link_key_cmp (link_key p suc (get_or es i d)) (link_key p suc (get_or es k d))) ≡ false)
@@ -138,7 +124,7 @@ keys_never_fall : (p : PlanData) (es : List PlanRecord) (d : PlanRecord)
 keys_never_fall p [] d up = tt
 keys_never_fall p (e ∷ es) d up =
     go (is_link e.kind) refl (keys_never_fall p es d (λ i k l h. up (suc i) (suc k) (omega arith) (omega arith)))
-    (λ link. preserved_keys es (all_places (λ f. f.kind ≡ Lnk → is_gt (link_key_cmp (link_key p suc e) (link_key p suc f)) ≡ false) es d (λ i l. up 0 (suc i) (omega arith) (omega arith) link)))
+    (λ link. preserved_keys es (each_from_places (λ f. f.kind ≡ Lnk → is_gt (link_key_cmp (link_key p suc e) (link_key p suc f)) ≡ false) es d (λ i l. up 0 (suc i) (omega arith) (omega arith) link)))
   where
     preserved_keys : (es : List PlanRecord) → AllByRecursion (λ f. f.kind ≡ Lnk → is_gt (link_key_cmp (link_key p suc e) (link_key p suc f)) ≡ false) es
         → AllByRecursion (λ k. is_gt (link_key_cmp (link_key p suc e) k) ≡ false) (filter_map (key_or_none p) es)
@@ -147,12 +133,12 @@ keys_never_fall p (e ∷ es) d up =
       where
         one : (b : Bool) → is_link f.kind ≡ b → AllByRecursion (λ k. is_gt (link_key_cmp (link_key p suc e) k) ≡ false) (filter_map (key_or_none p) fs)
             → AllByRecursion (λ k. is_gt (link_key_cmp (link_key p suc e) k) ≡ false) (filter_map (key_or_none p) (f ∷ fs))
-        one true h more = rw h (all.0 (is_link_then f.kind h), more)
+        one true h more = rw h (all.0 (link_is f.kind h), more)
         one false h more = rw h more
 
     go : (b : Bool) → is_link e.kind ≡ b → NeverFalls link_key_cmp (filter_map (key_or_none p) es) → (e.kind ≡ Lnk → AllByRecursion (λ k. is_gt (link_key_cmp (link_key p suc e) k) ≡ false) (filter_map (key_or_none p) es))
         → NeverFalls link_key_cmp (filter_map (key_or_none p) (e ∷ es))
-    go true h more first = rw h (first (is_link_then e.kind h), more)
+    go true h more first = rw h (first (link_is e.kind h), more)
     go false h more first = rw h more
 
 -- two lists with the same links in the same order, and the same other records at the same places
@@ -194,9 +180,9 @@ module _ (s : Classes) (p q : PlanData) (up : IsInOrder p) (up' : IsInOrder q) (
           let arc = c.arcs i h e in
           let a = (record_at p i).points in
           let turned_points : (record_at q (to i)).points ≡ reverse a = rw e at k.points in
-          let forth : points_cmp (record_at q (to i)).points (reverse (record_at q (to i)).points) ≡ Less = less_then _ (up'.forward (to i) (c.places.within i h) (k.kind ∙ arc)) in
+          let forth : points_cmp (record_at q (to i)).points (reverse (record_at q (to i)).points) ≡ Less = less_is _ (up'.forward (to i) (c.places.within i h) (k.kind ∙ arc)) in
           let back : points_cmp (reverse a) a ≡ Less = subst (λ x. points_cmp (reverse a) x ≡ Less) (reverse-reverse a) (subst (λ x. points_cmp x (reverse x) ≡ Less) turned_points forth) in
-          absurd (not_both_less points_total a (reverse a) (less_then _ (up.forward i h arc)) back)
+          absurd (not_both_less points_total a (reverse a) (less_is _ (up.forward i h arc)) back)
 
   ends_there : (i : ℕ) → i < length p.list → AllByRecursion (λ x. x.target < length p.list) ((record_at p i).ends)
   ends_there i h = under.whole.there i h
@@ -306,7 +292,7 @@ module _ (s : Classes) (p q : PlanData) (up : IsInOrder p) (up' : IsInOrder q) (
   -- so the ends of a link stay as they are
 
   ends_placed : (i : ℕ) → i < length p.list → AllByRecursion (λ x. (x.target < length p.list) × (suc (to x.target) ≡ suc x.target)) ((record_at p i).ends)
-  ends_placed i h = all_weaker _ _ (λ x k. (k.0, ap suc (fixed x.target k.0 k.1))) ((record_at p i).ends) (two_hold _ _ _ (ends_there i h) (under.whole.no_link i h))
+  ends_placed i h = each_weaker _ _ (λ x k. (k.0, ap suc (fixed x.target k.0 k.1))) ((record_at p i).ends) (two_hold _ _ _ (ends_there i h) (under.whole.no_link i h))
 
   ends_same : (i : ℕ) → i < length p.list → (record_at q (to i)).ends ≡ (record_at p i).ends
   ends_same i h = go (record_at p i).ends (record_at q (to i)).ends (ends_placed i h) (kept i h).origin (kept i h).others (up.others i h) (up'.others (to i) (c.places.within i h))
@@ -345,9 +331,9 @@ module _ (s : Classes) (p q : PlanData) (up : IsInOrder p) (up' : IsInOrder q) (
 
   links_same : filter_map link_or_none p.list ≡ filter_map link_or_none q.list
   links_same =
-      links_from_keys s p p.list (all_places _ p.list blank (λ i h link. link_back s p (record_at p i) (is_link_then _ link) (role_at s p under i h) (no_points _ _ (under.whole.points i h) link) (up.attributes i h) (up.others i h)))
+      links_from_keys s p p.list (each_from_places _ p.list blank (λ i h link. link_back s p (record_at p i) (link_is _ link) (role_at s p under i h) (no_points _ _ (under.whole.points i h) link) (up.attributes i h) (up.others i h)))
       ∙ (ap (map (link_of s)) link_keys_same
-      ∙ sym (links_from_keys s q q.list (all_places _ q.list blank (λ i h link. link_back s q (record_at q i) (is_link_then _ link) (role_at s q under' i h) (no_points _ _ (under'.whole.points i h) link) (up'.attributes i h) (up'.others i h)))))
+      ∙ sym (links_from_keys s q q.list (each_from_places _ q.list blank (λ i h link. link_back s q (record_at q i) (link_is _ link) (role_at s q under' i h) (no_points _ _ (under'.whole.points i h) link) (up'.attributes i h) (up'.others i h)))))
 
   same_length : length p.list ≡ length q.list
   same_length = sym (ones (length p.list)) ∙ (sum_below-renamed to _ _ c.places (λ _. 1) (λ _. 1) (λ i h. refl) ∙ ones (length q.list))

@@ -4,7 +4,7 @@
 ghost use Rattle.std.specs.Prelude.{◌≡◌, ◌≤◌, ◌<◌, ℕ, [], length, map, slice_index, slice_index_or, IfOk, MatchBool};
 ghost use Rattle.std.specs.List.{AllByRecursion};
 ghost use Rattle.edi_plan.specs.Plans.{IsPlace, record_at, others_of};
-ghost use Rattle.edi_topo.specs.inner.Keyed.{keyed};
+ghost use Rattle.edi_topo.specs.Ranking.{keyed};
 ghost use Rattle.edi_rank.specs.EndOrder.{OthersInOrder, PutsInOrder, no_end};
 ghost use Rattle.edi_rank.specs.Keys.{numbered};
 ghost use Rattle.edi_rank.specs.Pieces.{object_count};

@@ -8,6 +8,7 @@ use Rattle.std.proofs.lemmas.Slice.Eq.{bytes_eq-Decides}
 use Rattle.edi_line.specs.ZoneData.{ZoneData, has_code}
 use Rattle.edi_line.specs.inner.ZoneLists.{done_of, open_of}
 use Rattle.edi_line.proofs.ZoneLists.{all_zones}
+use Rattle.edi_line.proofs.Truths.{none_is}
 use Rattle.edi_record.specs.inner.Texts.{pointer}
 use Rattle.edi_record.specs.Texts.{PointerText}
 use Rattle.edi_record.specs.Records.{opens, closes}
@@ -153,10 +154,6 @@ attributes_pass a z left group not_class not_value no_set h = record {
     past_repeat : (o : Option Attribute) → (is_some o && has_code (codes "TEX") z) ≡ false → repeats_with o (z ∷ left) ≡ repeats_with o left
     past_repeat None t = skips_repeat z left not_class
     past_repeat (Some a) t = rw (not_class, not_value, t) refl
-
-pub none_is : {X : Type 0} (o : Option X) → is_some o ≡ false → o ≡ None
-none_is None e = refl
-none_is (Some x) e = absurd cc
 
 pub one_more : (n : ℕ) → leb 2 (1 + n) ≡ leb 1 n
 one_more n = grind (arith, nat_tests)

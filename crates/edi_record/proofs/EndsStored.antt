@@ -5,6 +5,7 @@ use Rattle.std.proofs.lemmas.Bool.{or_left, or_right}
 use Rattle.std.proofs.lemmas.Bool.Decides.{nat_tests}
 use Rattle.std.proofs.lemmas.List.{append-nil}
 use Rattle.edi_line.specs.ZoneData.{ZoneData, has_code}
+use Rattle.edi_line.proofs.Truths.{none_is}
 use Rattle.edi_record.specs.inner.Texts.{pointer}
 use Rattle.edi_record.specs.Texts.{PointerText}
 use Rattle.edi_record.specs.Records.{is_link, points_at}
@@ -13,7 +14,7 @@ use Rattle.edi_record.specs.inner.RecordRules.{kind_in, count_until, repeats_cod
 use Rattle.edi_record.specs.inner.Stored.{has_stray, sns_with, end_with, ends_with, bad_sns_with, StoresEnds, KeptEnds}
 use Rattle.edi_record.specs.declared.record.Kind.{Kind}
 use Rattle.edi_record.specs.LinkEnds.{EndData}
-use Rattle.edi_record.proofs.AttributesStored.{code_is, some_joined, none_is, one_more}
+use Rattle.edi_record.proofs.AttributesStored.{code_is, some_joined, one_more}
 use Rattle.edi_record.proofs.AttributesRead.{one_missing}
 use Rattle.edi_record.proofs.Loops.{sns_none, sns_stops, sns_found, sns_goes_on, ends_end, ends_skip, end_read, no_end, stray_sns_goes_on}
 use Rattle.edi_record.proofs.Parts.{bad_target, bad_sns, few_ends, good_ends}

@@ -42,3 +42,4 @@ pub mod StatedAt
 pub mod GroupRules
 pub mod RecordsBroken
 mod SharedParts
+pub mod KindCodes

@@ -6,6 +6,7 @@ use Rattle.std.proofs.lemmas.Bool.{or_left, or_right, or_from, leb-true, leb-fal
 use Rattle.std.proofs.lemmas.List.{length-map}
 use Rattle.std.proofs.lemmas.Slice.Eq.{bytes_eq-Decides}
 use Rattle.edi_line.specs.ZoneData.{ZoneData, first}
+use Rattle.edi_line.proofs.Truths.{or_true}
 use Rattle.edi_record.specs.Texts.{PointerText}
 use Rattle.edi_record.specs.inner.Texts.{pointer, point_in}
 use Rattle.edi_record.specs.Shapes.{kind_code, may_have_points}
@@ -87,10 +88,6 @@ right_points kind g ps k h e shape = go kind k h shape
     go Pfe k h s = absurd cc
     go Fea k h s = absurd cc
     go Lnk k h s = absurd cc
-
-or_true : (b : Bool) → (b || true) ≡ true
-or_true true = refl
-or_true false = refl
 
 pub wrong_number : (kind : Kind) (g : List ZoneData) (ps : List Point) → kind_in g ≡ Some kind → has_points kind ≡ true → map point_in (values (codes "COR") g) ≡ map Some ps → may_have_points kind (length ps) ≡ false → has_bad_point g ≡ true
 wrong_number kind g ps k h e shape = go kind k h shape

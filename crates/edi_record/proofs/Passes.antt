@@ -13,7 +13,7 @@ use Rattle.edi_record.specs.Records.{values, IsValueOf}
 use Rattle.edi_record.specs.inner.Records.{ReadsAsRecord, value_of}
 use Rattle.edi_record.specs.declared.name.Name.{Name}
 use Rattle.edi_record.specs.declared.record.Record.{Record}
-use Rattle.edi_record.proofs.Unique.{kind_again}
+use Rattle.edi_record.proofs.KindCodes.{kind_again}
 
 pub kind_is : (group : List ZoneData) (r : Record) → ReadsAsRecord group r → kind_in group ≡ Some r.kind
 kind_is group r h = ap (λ vs. option_and_then kind_named (first vs)) h.type ∙ kind_again r.kind

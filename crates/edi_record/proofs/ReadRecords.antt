@@ -2,7 +2,7 @@
 use Rattle.std.proofs.Common.{◌≡◌, ℕ, ◌+◌, ◌≤◌, ◌<◌, ◌^◌, Bool, true, false, cond, not, ◌&&◌, ◌||◌, eqb, ltb, leb, inl, inr, Option, Some, None, List, [], ◌∷◌, ◌++◌, map, filter, length, refl, sym, ap, ◌∙◌, subst, arith, codes, ℤ}
 use Rattle.std.specs.Prelude.{option_map, unwrap_or, IfSome, is_none}
 use Rattle.std.specs.List.{AllByRecursion, AllZip, list_any, before_first, onto_first}
-use Rattle.std.proofs.lemmas.Bool.{and_from, or_parts, not-true, false_from_ne_true, eq-eqb, le-leb, ltb-false}
+use Rattle.std.proofs.lemmas.Bool.{and_from, or_parts, not-true, false_from_ne_true, eq-eqb, le-leb, ltb-false, not-false}
 use Rattle.std.proofs.lemmas.List.{length-map, nil_from_length}
 use Rattle.std.proofs.lemmas.List.Elements.{All-from_recursion, recursion_from_All}
 use Rattle.edi_line.specs.ZoneData.{ZoneData, has_code, first}
@@ -314,12 +314,8 @@ end_kept group k = false_from_ne_true (has_bad_end group) (λ e. k 207 (inr (inr
 pointer_kept : (group : List ZoneData) → IsKept group → has_unknown_pointer group ≡ false
 pointer_kept group k = false_from_ne_true (has_unknown_pointer group) (λ e. k 208 (inr (inr (inr (inr (inr (inr (inr (inl (refl, e))))))))))
 
-not_false : (b : Bool) → not b ≡ false → b ≡ true
-not_false true e = refl
-not_false false e = cc
-
 identifier_read : (group : List ZoneData) (r : Record) → ReadsAsRecord group r → IsKept group → is_identifier r.rid ≡ true
-identifier_read group r h k = not_false (is_identifier r.rid) (sym (ap (λ vs. not (just_one is_identifier vs)) h.rid) ∙ identifier_kept group k)
+identifier_read group r h k = not-false (is_identifier r.rid) (sym (ap (λ vs. not (just_one is_identifier vs)) h.rid) ∙ identifier_kept group k)
 
 -- ---- points and ends where the kind has them
 

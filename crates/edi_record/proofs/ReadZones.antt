@@ -1,7 +1,7 @@
 -- The zones of a file can be printed, and those of its records part no file.
 use Rattle.std.proofs.Common.{◌≡◌, ℕ, zero, suc, ◌+◌, ◌-◌, ◌≤◌, Bool, true, false, cond, not, ◌&&◌, ◌||◌, eqb, ltb, leb, inl, inr, Some, None, Ok, Err, List, [], ◌∷◌, ◌++◌, map, length, take, drop, slice_index, refl, sym, ap, ◌∙◌, subst, append_assoc, arith}
 use Rattle.std.specs.List.{AllByRecursion, list_all, list_any, onto_first}
-use Rattle.std.proofs.lemmas.Bool.{and_parts, and_from, or_left, or_right, ne_eqb, false_from_ne_true}
+use Rattle.std.proofs.lemmas.Bool.{and_parts, and_from, or_left, or_right, ne_eqb, false_from_ne_true, not-false}
 use Rattle.std.proofs.lemmas.List.Folds.{list_any-append}
 use Rattle.std.proofs.lemmas.Grind.{common_steps}
 use Rattle.std.proofs.lemmas.List.{length-map}
@@ -23,6 +23,7 @@ use Rattle.edi_line.specs.Printing.{is_code, IsOneLine, IsPrintable}
 use Rattle.edi_line.proofs.Cut.{lines_exist}
 use Rattle.edi_line.proofs.KindsSaid.{IsOther, by_code}
 use Rattle.edi_line.proofs.Readings.{unbroken_read}
+use Rattle.edi_line.proofs.Truths.{or_false}
 use Rattle.edi_record.specs.RecordLayout.{is_free}
 
 -- ---- contents have no line feed
@@ -121,17 +122,13 @@ head_spelled content h e =
       value = take_keeps (stated_length content) (drop 8 content) (drop_keeps 8 content h);
     }
 
-not_false : (b : Bool) → not b ≡ false → b ≡ true
-not_false true e = refl
-not_false false e = cc
-
 read_well : (content : List ℕ) → NoFeed content → IsReadWell (reading_of content)
 unfolding reading_of
 read_well content h =
     if_holds IsReadWell (list_all is_space content) (Ok None) _ (λ _. tt) (λ _.
     if_holds IsReadWell (not (has_head content)) (Err 101) _ (λ _. tt) (λ e.
     if_holds IsReadWell (ltb (length (drop 8 content)) (stated_length content)) (Err 102) _ (λ _. tt) (λ _.
-    if_holds IsReadWell (list_all is_space (drop (stated_length content) (drop 8 content))) (Ok (Some (spelling_of content))) (Err 103) (λ _. head_spelled content h (not_false (has_head content) e)) (λ _. tt))))
+    if_holds IsReadWell (list_all is_space (drop (stated_length content) (drop 8 content))) (Ok (Some (spelling_of content))) (Err 103) (λ _. head_spelled content h (not-false (has_head content) e)) (λ _. tt))))
 
 -- ---- codes
 
@@ -245,13 +242,9 @@ keeps done line lines sound = record {
       sound 108 (length done + 1) (record { before = done; line = line; after = lines; cut = refl; place_is = refl; breaks = inr (inr (inr (inr (inl (refl, or_right (bears (code_is "BOM") line && some_bears (code_is "BOM") done) (bears (code_is "CSE") line && (some_bears (code_is "CSE") done || some_bears (code_is "RTY") done)) (and_from (bears (code_is "CSE") line) (some_bears (code_is "CSE") done || some_bears (code_is "RTY") done) p.0 (or_right (some_bears (code_is "CSE") done) (some_bears (code_is "RTY") done) p.1))))))) }));
 }
 
-or_none : (b : Bool) → (b || false) ≡ b
-or_none true = refl
-or_none false = refl
-
 -- a test of lines, with one line more
 borne : (p : Reading → Bool) (done : List Reading) (line : Reading) → list_any p (done ++ line ∷ []) ≡ (list_any p done || p line)
-borne p done line = list_any-append p done (line ∷ []) ∙ ap (λ b. list_any p done || b) (or_none (p line))
+borne p done line = list_any-append p done (line ∷ []) ∙ ap (λ b. list_any p done || b) (or_false (p line))
 
 runs_from : (done lines : List Reading) → IsSound (done ++ lines) → Runs (some_bears is_zone done) (some_bears (code_is "BOM") done) (some_bears (code_is "RTY") done) lines
 runs_from done [] sound = tt

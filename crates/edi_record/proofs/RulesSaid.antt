@@ -32,7 +32,7 @@ use Rattle.edi_record.proofs.Passes.{has_kind, has_identifier, has_class}
 use Rattle.edi_record.proofs.Parts.{code_named}
 use Rattle.edi_record.proofs.StatesSaid.{states_read, Open, SaysOpen, open_none, open_more, extra_test, test_extra}
 use Rattle.edi_record.proofs.TextParts.{pointer_is, place_is}
-use Rattle.edi_record.proofs.Unique.{kind_again}
+use Rattle.edi_record.proofs.KindCodes.{link_is, kind_again}
 
 -- ---- lists of which some element fails
 
@@ -104,13 +104,6 @@ arc_kind Pfe e = absurd cc
 arc_kind Fea e = absurd cc
 arc_kind Lnk e = absurd cc
 
-link_kind : (kind : Kind) → is_link kind ≡ true → kind ≡ Lnk
-link_kind Lnk e = refl
-link_kind Pno e = absurd cc
-link_kind Par e = absurd cc
-link_kind Pfe e = absurd cc
-link_kind Fea e = absurd cc
-
 node_said : (g : List ZoneData) → in_kind is_node g ≡ true → IsOfKind g Pno
 node_said g e = let k = in_kind_said is_node g e in subst (IsOfKind g) (node_kind k.0 k.2) k.1
 
@@ -118,7 +111,7 @@ arc_said : (g : List ZoneData) → in_kind is_arc_kind g ≡ true → IsOfKind g
 arc_said g e = let k = in_kind_said is_arc_kind g e in subst (IsOfKind g) (arc_kind k.0 k.2) k.1
 
 link_said : (g : List ZoneData) → in_kind is_link g ≡ true → IsOfKind g Lnk
-link_said g e = let k = in_kind_said is_link g e in subst (IsOfKind g) (link_kind k.0 k.2) k.1
+link_said g e = let k = in_kind_said is_link g e in subst (IsOfKind g) (link_is k.0 k.2) k.1
 
 -- ---- 201 and 203
 

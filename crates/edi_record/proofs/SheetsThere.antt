@@ -1,11 +1,12 @@
 -- Zones that break no rule of records state a sheet.
-use Rattle.std.proofs.Common.{◌≡◌, ℕ, Bool, true, false, cond, not, ◌&&◌, inl, inr, List, [], ◌∷◌, map, Option, Some, None, option_map, is_none, is_some, codes, refl, sym, ap, ◌∙◌}
+use Rattle.std.proofs.Common.{◌≡◌, ℕ, Bool, true, false, cond, ◌&&◌, inl, inr, List, [], ◌∷◌, map, Option, Some, None, option_map, is_none, is_some, codes, refl, sym, ap, ◌∙◌}
 use Rattle.std.specs.List.{AllByRecursion, AllZip, list_any}
-use Rattle.std.proofs.lemmas.Bool.{or_parts, false_from_ne_true}
+use Rattle.std.proofs.lemmas.Bool.{or_parts, false_from_ne_true, not-false}
 use Rattle.std.proofs.lemmas.Option.{same_Some}
 use Rattle.edi_line.specs.Refusal.{IsUnbroken}
 use Rattle.edi_line.specs.ZoneData.{ZoneData, first, has_code}
 use Rattle.edi_line.specs.Zones.{begins_group, before_end, groups_of, charset_of}
+use Rattle.edi_line.proofs.Truths.{some_is}
 use Rattle.edi_record.specs.LinkEnds.{EndData}
 use Rattle.edi_record.specs.RecordRules.{BreaksRecordRule, IsOfKind, just_one, is_identifier}
 use Rattle.edi_record.specs.Records.{values, has_points, is_link, SheetData, StatesSheet}
@@ -51,17 +52,9 @@ types_once (z ∷ zs) = go (begins_group z) refl (types_once zs)
 
 -- ---- what is there where a test finds nothing wrong
 
-not_false : (b : Bool) → not b ≡ false → b ≡ true
-not_false true e = refl
-not_false false e = cc
-
 there : {X : Type 0} (o : Option X) → is_none o ≡ false → (x : X) × (o ≡ Some x)
 there (Some x) e = (x, refl)
 there None e = absurd cc
-
-there_too : {X : Type 0} (o : Option X) → is_some o ≡ true → (x : X) × (o ≡ Some x)
-there_too (Some x) e = (x, refl)
-there_too None e = absurd cc
 
 all_there : {X : Type 0} (os : List (Option X)) → list_any is_none os ≡ false → (xs : List X) × (os ≡ map Some xs)
 all_there [] e = ([], refl)
@@ -97,13 +90,13 @@ module _ (g : List ZoneData) (once : HasOneType g) (kept : IsKept g) (kind : Kin
       once.1 ∙ ap (λ t. t ∷ []) same
 
   rid_there : (text : List ℕ) × (values (codes "RID") g ≡ text ∷ []) × (is_identifier text ≡ true)
-  rid_there = the_one is_identifier (values (codes "RID") g) (not_false _ (identifier_kept g kept))
+  rid_there = the_one is_identifier (values (codes "RID") g) (not-false _ (identifier_kept g kept))
 
   class_there : (name : Name) × (map class_of (values (codes "SCP") g) ≡ Some name ∷ [])
   class_there =
       let none : has_no_class g ≡ false = false_from_ne_true (has_no_class g) (λ e. kept 203 (inr (inr (inl (refl, e))))) in
-      let one = the_one (λ text. is_some (pointer text)) (values (codes "SCP") g) (not_false _ none) in
-      let named = class_named one.0 (there_too (pointer one.0) one.2) in
+      let one = the_one (λ text. is_some (pointer text)) (values (codes "SCP") g) (not-false _ none) in
+      let named = class_named one.0 (some_is (pointer one.0) one.2) in
       (named.0, ap (map class_of) one.1 ∙ ap (λ o. o ∷ []) named.1)
     where
       class_named : (text : List ℕ) → (p : PointerText) × (pointer text ≡ Some p) → (name : Name) × (class_of text ≡ Some name)

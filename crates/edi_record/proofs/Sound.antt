@@ -16,6 +16,7 @@ use Rattle.edi_line.proofs.PrintedRules as lines
 use Rattle.edi_line.proofs.Said.{file_said}
 use Rattle.edi_line.proofs.Readings.{unbroken_read}
 use Rattle.edi_line.proofs.ZonesSaid.{zones_said}
+use Rattle.edi_line.proofs.EachElement.{each_weaker, each_mapped}
 use Rattle.edi_record.proofs.RulesSaid.{records_unbroken}
 use Rattle.edi_record.specs.Shapes.{kind_code}
 use Rattle.edi_record.specs.inner.RecordRules.{record_tests, FailsTest}
@@ -94,14 +95,6 @@ sheet_file s cse rs h = record {
 abbrev IsKept : List ZoneData → Type 0
 IsKept group = first_broken (record_tests group) ≡ None
 
-each_of : {X : Type 0} (P Q : X → Type 0) → ((x : X) → P x → Q x) → (xs : List X) → AllByRecursion P xs → AllByRecursion Q xs
-each_of P Q k [] h = tt
-each_of P Q k (x ∷ xs) h = (k x h.0, each_of P Q k xs h.1)
-
-mapped : {X V : Type 0} (P : V → Type 0) (f : X → V) (xs : List X) → AllByRecursion (λ x. P (f x)) xs → AllByRecursion P (map f xs)
-mapped P f [] h = tt
-mapped P f (x ∷ xs) h = (h.0, mapped P f xs h.1)
-
 unmapped : {X V : Type 0} (P : V → Type 0) (f : X → V) (xs : List X) → AllByRecursion P (map f xs) → AllByRecursion (λ x. P (f x)) xs
 unmapped P f [] h = tt
 unmapped P f (x ∷ xs) h = (h.0, unmapped P f xs h.1)
@@ -109,9 +102,9 @@ unmapped P f (x ∷ xs) h = (h.0, unmapped P f xs h.1)
 -- groups that break no rule break none where they are line_numbered
 numbered_kept : (n : ℕ) (zs : List ZoneData) → AllByRecursion IsKept (groups_of zs) → AllByRecursion IsKept (groups_of (line_numbered n zs))
 numbered_kept n zs h =
-    let plain = mapped IsKept bare (groups_of zs) (each_of IsKept (λ g. IsKept (bare g)) (λ g k. ap first_broken (bare_tests g) ∙ k) (groups_of zs) h) in
+    let plain = each_mapped IsKept bare (groups_of zs) (each_weaker IsKept (λ g. IsKept (bare g)) (λ g k. ap first_broken (bare_tests g) ∙ k) (groups_of zs) h) in
     let same = subst (AllByRecursion IsKept) (sym (same_groups n zs)) plain in
-    each_of (λ g. IsKept (bare g)) IsKept (λ g k. sym (ap first_broken (bare_tests g)) ∙ k) (groups_of (line_numbered n zs)) (unmapped IsKept bare (groups_of (line_numbered n zs)) same)
+    each_weaker (λ g. IsKept (bare g)) IsKept (λ g k. sym (ap first_broken (bare_tests g)) ∙ k) (groups_of (line_numbered n zs)) (unmapped IsKept bare (groups_of (line_numbered n zs)) same)
 
 records_kept : (s : Letters) (rs : List Record) → AllByRecursion IsRecord rs → AllByRecursion FollowsRules rs → AllByRecursion IsKept (map (zones_of_record s) rs)
 records_kept s [] h k = tt

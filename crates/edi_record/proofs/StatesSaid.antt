@@ -2,7 +2,7 @@
 use Rattle.std.proofs.Common.{◌≡◌, ◌↔◌, ◌⊎◌, ℕ, Bool, true, false, ◌&&◌, ◌||◌, cond, List, [], ◌∷◌, ◌++◌, map, filter, Option, Some, None, option_map, codes, refl, sym, ap, ◌∙◌, subst, inl, inr}
 use Rattle.std.specs.Prelude.{unwrap_or}
 use Rattle.std.specs.List.{list_any, before_first, AllZip}
-use Rattle.std.proofs.lemmas.Bool.{both_ways, and_parts, and_from, not-true, false_from_ne_true}
+use Rattle.std.proofs.lemmas.Bool.{both_ways, and_parts, and_from, not-true, false_from_ne_true, or_parts}
 use Rattle.std.proofs.lemmas.List.{append_assoc}
 use Rattle.std.proofs.lemmas.List.Folds.{list_any-append}
 use Rattle.edi_line.specs.ZoneData.{ZoneData, has_code, first}
@@ -234,15 +234,9 @@ open_more b front z says = go (opens z) refl (closes z) refl
     go false q true r = (λ e. (let h : false ≡ true = e in absurd cc), λ h. absurd (both_ways _ (open_back front z q h).0 (rw (q, r) refl)))
     go false q false r = (λ e. open_still front z (rw (q, r) refl) (says.0 e), λ h. says.1 (open_back front z q h).1)
 
--- a test of extras
-neither : (x y : Bool) → (x || y) ≡ false → (x ≡ false) × (y ≡ false)
-neither false false e = (refl, refl)
-neither false true e = absurd cc
-neither true y e = absurd cc
-
 pub extra_test : (kind : Kind) (b : Bool) (front : List ZoneData) (z : ZoneData) → SaysOpen b front → is_extra kind (record { open_before = b; zone = z }) ≡ true → IsExtraAt kind front z
 extra_test kind b front z says e =
-    let p = neither _ _ (not-true _ e) in
+    let p = or_parts _ _ (not-true _ e) in
     record {
       unknown = p.1;
       no_set = λ since h. false_from_ne_true _ (λ t. both_ways _ p.0 (and_from _ _ t (says.1 (since, h))));

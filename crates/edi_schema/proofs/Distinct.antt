@@ -5,6 +5,7 @@ use Rattle.edi_record.specs.declared.name.Name.{Name}
 use Rattle.edi_schema.specs.Classes.{is_name}
 use Rattle.std.proofs.lemmas.Option.{slice_get-map, slice_get-get_or}
 use Rattle.std.proofs.lemmas.List.{take_all, take-map}
+use Rattle.std.proofs.lemmas.Bool.{not-false}
 use Rattle.edi_schema.specs.inner.Drafts.{title_name, definition_said}
 use Rattle.edi_schema.specs.inner.Steps.{IsFirstRepeat}
 use Rattle.edi_schema.specs.declared.definition.Definition.{Definition}
@@ -33,16 +34,12 @@ none_distinct = tt
 abbrev name_of : Definition → Name
 name_of d = (definition_said d).name
 
-not_false : (b : Bool) → not b ≡ false → b ≡ true
-not_false true e = refl
-not_false false e = sym e
-
 module _ (eq : Title → Title → Bool) (is : (a b : Title) → eq a b ≡ is_name (title_name a) (title_name b)) where
   pub repeat_found : (records : List Definition) (i : ℕ) (d : Definition) (ts : List Title) → i < length records → map title_name ts ≡ map name_of (take i records)
       → IsDistinct is_name (map name_of (take i records)) → not (list_any (eq (get_or records i d).title) ts) ≡ false → IsFirstRepeat (map name_of records) (i + 1)
   repeat_found records i d ts below names distinct there =
       let front : map name_of (take i records) ≡ take i (map name_of records) = sym (take-map name_of i records) in
-      let again : list_any (eq (get_or records i d).title) ts ≡ true = not_false _ there in
+      let again : list_any (eq (get_or records i d).title) ts ≡ true = not-false _ there in
       record {
         place = i;
         name = name_of (get_or records i d);

@@ -1,12 +1,11 @@
 -- The schema of two files that break no rule keeps what each schema keeps.
-use Rattle.std.proofs.Common.{◌≡◌, ◌≢◌, ℕ, zero, suc, ◌+◌, ◌-◌, ◌<◌, ◌≤◌, Bool, true, false, cond, List, [], ◌∷◌, length, Option, Some, None, slice_get, count_by, refl, sym, ap, ◌∙◌, subst, arith, true≢false, ◌⊎◌, inl, inr}
+use Rattle.std.proofs.Common.{◌≡◌, ℕ, zero, suc, ◌+◌, ◌-◌, ◌<◌, ◌≤◌, Bool, true, false, cond, List, [], ◌∷◌, length, Option, Some, slice_get, count_by, refl, sym, ap, ◌∙◌, subst, arith, true≢false, inl, inr}
 use Rattle.std.specs.List.{AllZip, list_any}
 use Rattle.std.proofs.lemmas.List.Sorted.{sum_by-IsPermutation, list_any-IsPermutation}
 use Rattle.edi_record.specs.declared.name.Name.{Name}
 use Rattle.edi_record.specs.Records.{values, first}
 use Rattle.edi_record.specs.Texts.{is_semicolon}
 use Rattle.edi_schema.specs.declared.role.Role.{Role}
-use Rattle.edi_schema.specs.declared.role.Role.TheVariants.{Plain}
 use Rattle.edi_schema.specs.declared.class.Class.{Class}
 use Rattle.edi_schema.specs.Roles.{KindCodes, is_plain, exchanged}
 use Rattle.edi_schema.specs.Classes.{Classes, IsSchema, has_role, is_pointable}
@@ -17,7 +16,8 @@ use Rattle.edi_schema.specs.SchemaRefusal.{IsGoodSchema}
 use Rattle.edi_schema.proofs.Letters.{all_letters}
 use Rattle.edi_schema.proofs.Pointable.{any_at, some_pass, by_pointable, makes_pointable}
 use Rattle.edi_schema.proofs.ReadNames.{group_lines, all_readable}
-use Rattle.edi_schema.proofs.Paired.{one_role, itself, twice, still_kind, count-cons, is_counted, found_at}
+use Rattle.edi_schema.proofs.Paired.{one_role, itself, count-cons, is_counted, found_at}
+use Rattle.edi_schema.proofs.RoleTests.{exchanged_back, still_plain, not_plain}
 
 none_counted : {X : Type 0} (test : X → Bool) (xs : List X) → ((k : ℕ) (x : X) → slice_get xs k ≡ Some x → test x ≡ true → ⊥) → count_by test xs ≡ 0
 none_counted test [] none = refl
@@ -53,9 +53,6 @@ zip_back R [] (z ∷ ys) all k x h = absurd all
 zip_back R (z ∷ xs) [] all k x h = absurd all
 zip_back R (z ∷ xs) (y ∷ ys) all zero x h = (y, refl, subst (λ w. R w y) (Rattle.std.proofs.lemmas.Option.same_Some z x h) all.0)
 zip_back R (z ∷ xs) (y ∷ ys) all (suc k) x h = zip_back R xs ys all.1 k x h
-
-pub not_plain : (r : Role) → is_plain r ≡ false → r ≢ Plain
-not_plain r h e = true≢false (sym (ap is_plain e) ∙ h)
 
 module _ (scd dic : List ℕ) (kinds : KindCodes) (s : Classes) (good : IsGoodSchema scd dic kinds s) where
   abbrev stated : Classes
@@ -101,14 +98,14 @@ module _ (scd dic : List ℕ) (kinds : KindCodes) (s : Classes) (good : IsGoodSc
   both role kind = go (count_by (has_role role) s) (count_by (has_role (exchanged role)) s) refl refl
     where
       other_kind : is_plain (exchanged role) ≡ false
-      other_kind = still_kind role ∙ kind
+      other_kind = still_plain role ∙ kind
 
       go : (m n : ℕ) → count_by (has_role role) s ≡ m → count_by (has_role (exchanged role)) s ≡ n → m ≡ n
       go zero zero e f = refl
       go (suc m) zero e f = absurd (omega (arith, e, f, other_there role kind (omega (arith, e))))
       go zero (suc n) e f =
           let back : 0 < count_by (has_role (exchanged (exchanged role))) s = other_there (exchanged role) other_kind (omega (arith, f)) in
-          absurd (omega (arith, e, subst (λ r. 0 < count_by (has_role r) s) (twice role) back))
+          absurd (omega (arith, e, subst (λ r. 0 < count_by (has_role r) s) (exchanged_back role) back))
       go (suc m) (suc n) e f = omega (arith, e, f, one role kind, one (exchanged role) other_kind)
 
   -- a pointer can name a class of a kind alone where one can name its partner
@@ -123,7 +120,7 @@ module _ (scd dic : List ℕ) (kinds : KindCodes) (s : Classes) (good : IsGoodSc
       go found.0 found.1 found.2 parts.0 parts.1 other.0 other.1 other.3 other.4 (list_any is_semicolon other.1.0.rty) refl
     where
       other_kind : is_plain (exchanged role) ≡ false
-      other_kind = still_kind role ∙ kind
+      other_kind = still_plain role ∙ kind
 
       go : (m : ℕ) (e : Name × Class) → slice_get stated m ≡ Some e → has_role role e ≡ true → list_any is_semicolon e.0.rty ≡ false
           → (k : ℕ) (f : Name × Class) → slice_get stated k ≡ Some f → has_role (exchanged role) f ≡ true → (b : Bool) → list_any is_semicolon f.0.rty ≡ b → ⊥
@@ -131,13 +128,13 @@ module _ (scd dic : List ℕ) (kinds : KindCodes) (s : Classes) (good : IsGoodSc
           let passes = some_pass (is_pointable (exchanged role)) stated k f g (makes_pointable (exchanged role) f other i) in
           true≢false (sym passes ∙ (list_any-IsPermutation (is_pointable (exchanged role)) stated s good.is.same ∙ none))
       go m e h own free k f g other true i =
-          let again : has_role (exchanged (exchanged role)) e ≡ true = ap (λ r. has_role r e) (twice role) ∙ own in
+          let again : has_role (exchanged (exchanged role)) e ≡ true = ap (λ r. has_role r e) (exchanged_back role) ∙ own in
           good.kinds_hold (inr (inr (
             suc k,
             suc m,
             exchanged role,
             stated_role (exchanged role) other_kind k f g other,
-            stated_role (exchanged (exchanged role)) (still_kind (exchanged role) ∙ other_kind) m e h again,
+            stated_role (exchanged (exchanged role)) (still_plain (exchanged role) ∙ other_kind) m e h again,
             i,
             free,
           )))
@@ -149,7 +146,7 @@ module _ (scd dic : List ℕ) (kinds : KindCodes) (s : Classes) (good : IsGoodSc
       go true true e f = refl
       go false false e f = refl
       go true false e f = absurd (apart role kind e f)
-      go false true e f = absurd (apart (exchanged role) (still_kind role ∙ kind) f (ap (λ r. list_any (is_pointable r) s) (twice role) ∙ e))
+      go false true e f = absurd (apart (exchanged role) (still_plain role ∙ kind) f (ap (λ r. list_any (is_pointable r) s) (exchanged_back role) ∙ e))
 
   pub keeps : length s ≤ 9999999 → IsSchema s
   keeps few = record {

@@ -1,7 +1,7 @@
 -- The letters of the classes that records state are A to Z.
-use Rattle.std.proofs.Common.{◌≡◌, ℕ, Bool, true, false, cond, ◌&&◌, nat_le, List, [], ◌∷◌, Option, Some, None, refl, subst, arith, sym, true≢false}
+use Rattle.std.proofs.Common.{◌≡◌, ℕ, Bool, true, false, cond, ◌&&◌, nat_le, List, [], ◌∷◌, Option, Some, None, refl, subst, arith, sym}
 use Rattle.std.specs.List.{AllByRecursion, AllZip}
-use Rattle.std.proofs.lemmas.Bool.{leb-true}
+use Rattle.std.proofs.lemmas.Bool.{leb-true, and_parts}
 use Rattle.std.proofs.lemmas.List.Elements.{recursion_from_All, All-from_recursion}
 use Rattle.std.proofs.lemmas.List.Sorted.{All-permutation}
 use Rattle.edi_line.specs.ZoneData.{ZoneData}
@@ -11,18 +11,13 @@ use Rattle.edi_schema.specs.Classes.{Classes, IsLetter}
 use Rattle.edi_schema.specs.SchemaOf.{Words, letter_read, StatesClass, IsSchemaOf}
 use Rattle.edi_schema.specs.declared.class.Class.{Class}
 
-both_true : (a b : Bool) → (a && b) ≡ true → (a ≡ true) × (b ≡ true)
-both_true true true e = (refl, refl)
-both_true true false e = absurd (true≢false (sym e))
-both_true false b e = absurd (true≢false (sym e))
-
 is_letter : (word_type : Option (List ℕ)) → IsLetter (letter_read word_type)
 is_letter None = (omega arith, omega arith)
 is_letter (Some []) = (omega arith, omega arith)
 is_letter (Some (c ∷ [])) = go (nat_le 65 c && nat_le c 90) refl
   where
     go : (b : Bool) → (nat_le 65 c && nat_le c 90) ≡ b → IsLetter (cond b c 65)
-    go true e = let both = both_true (nat_le 65 c) (nat_le c 90) e in (leb-true 65 c both.0, leb-true c 90 both.1)
+    go true e = let both = and_parts (nat_le 65 c) (nat_le c 90) e in (leb-true 65 c both.0, leb-true c 90 both.1)
     go false e = (omega arith, omega arith)
 is_letter (Some (c ∷ d ∷ cs)) = (omega arith, omega arith)
 

@@ -20,3 +20,4 @@ pub mod One
 pub mod SortedLists
 pub mod RoleOrder
 pub mod InPlace
+pub mod RoleTests

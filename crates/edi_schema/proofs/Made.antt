@@ -22,9 +22,10 @@ use Rattle.edi_schema.specs.declared.role.Role.{Role}
 use Rattle.edi_schema.specs.declared.role.Role.TheVariants.{Plain}
 use Rattle.edi_schema.proofs.Led.{IsLed}
 use Rattle.edi_schema.proofs.StepsHold.{own_name, word_named, named_class}
-use Rattle.edi_schema.proofs.Paired.{one_role, itself, twice, still_kind, count-cons, is_counted, one_place, found_at}
-use Rattle.edi_schema.proofs.Good.{not_plain, zip_at, zip_back}
+use Rattle.edi_schema.proofs.Paired.{one_role, itself, count-cons, is_counted, one_place, found_at}
+use Rattle.edi_schema.proofs.Good.{zip_at, zip_back}
 use Rattle.edi_schema.proofs.Pointable.{any_at, some_pass, by_pointable, makes_pointable, is_the_one}
+use Rattle.edi_schema.proofs.RoleTests.{exchanged_back, still_plain, not_plain}
 
 -- ---- words
 
@@ -143,7 +144,7 @@ module _ (cs ws : List (List ZoneData)) (cs_led : AllByRecursion IsLed cs) (ws_l
       let some_here = is_counted (has_role b.1) are.stated (b.0 - 1) one.0 one.1 one.2 in
       let kind = kind_of_role b.1 b.2.5 in
       let other = found_at (has_role (exchanged b.1)) are.stated (omega (arith, some_here, counts b.1, counts (exchanged b.1), m.both b.1 kind)) in
-      b.3 (suc other.0) (role_here other.0 (exchanged b.1) other.1 (still_kind b.1 ∙ kind) other.3 other.4)
+      b.3 (suc other.0) (role_here other.0 (exchanged b.1) other.1 (still_plain b.1 ∙ kind) other.3 other.4)
   kinds_hold m (inr (inr b)) =
       let one = class_here b.0 b.2 b.3 in
       let two = class_here b.1 (exchanged b.2) b.4 in
@@ -176,14 +177,14 @@ module _ (cs ws : List (List ZoneData)) (cs_led : AllByRecursion IsLed cs) (ws_l
   unfolding role_here
   semicolon_here role kind m k e f h pointed g other holds =
       let parts = by_pointable role e pointed in
-      let other_kind = still_kind role ∙ kind in
-      let again : has_role (exchanged (exchanged role)) e ≡ true = ap (λ r. has_role r e) (twice role) ∙ parts.0 in
+      let other_kind = still_plain role ∙ kind in
+      let again : has_role (exchanged (exchanged role)) e ≡ true = ap (λ r. has_role r e) (exchanged_back role) ∙ parts.0 in
       inr (inr (
         suc k,
         suc m,
         exchanged role,
         role_here k (exchanged role) f other_kind g other,
-        role_here m (exchanged (exchanged role)) e (still_kind (exchanged role) ∙ other_kind) h again,
+        role_here m (exchanged (exchanged role)) e (still_plain (exchanged role) ∙ other_kind) h again,
         holds,
         parts.1,
       ))

@@ -7,20 +7,16 @@ use Rattle.std.specs.Map.{lookup, keys_of}
 use Rattle.std.proofs.lemmas.Map.Text.{is_eq-slice_cmp}
 use Rattle.std.proofs.lemmas.Cmp.{tied_itself}
 use Rattle.std.proofs.lemmas.Slice.Eq.{bytes_eq-Decides}
+use Rattle.std.proofs.lemmas.Bool.{and_parts}
 use Rattle.edi_record.specs.declared.name.Name.{Name}
 use Rattle.edi_record.specs.Orders.{bytes_cmp}
 use Rattle.edi_schema.specs.Classes.{is_name, name_cmp}
 use Rattle.edi_schema.specs.Sorted.{AlwaysRises}
 use Rattle.edi_schema.proofs.Ordered.{name_total}
 
-both_true : (a b : Bool) → (a && b) ≡ true → (a ≡ true) × (b ≡ true)
-both_true true true e = (refl, refl)
-both_true true false e = absurd cc
-both_true false b e = absurd cc
-
 pub same_name : (a b : Name) → is_name a b ≡ true → a ≡ b
 same_name a b e =
-    let parts = both_true _ _ e in
+    let parts = and_parts _ _ e in
     let rty : a.rty ≡ b.rty = (bytes_eq-Decides a.rty b.rty).0 parts.0 in
     let rid : a.rid ≡ b.rid = (bytes_eq-Decides a.rid b.rid).0 parts.1 in
     λ j. record { rty = rty j; rid = rid j }

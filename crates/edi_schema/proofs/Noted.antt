@@ -4,6 +4,7 @@ use Rattle.std.specs.List.{position_or_len}
 use Rattle.std.proofs.lemmas.Bool.{ltb-true, ltb-false, lt-ltb}
 use Rattle.std.proofs.lemmas.List.{map_more, take_all, take-append-drop, map-append, length-map, length-take-le}
 use Rattle.std.proofs.lemmas.List.Sums.{sum_by-append}
+use Rattle.edi_line.proofs.Truths.{some_is}
 use Rattle.edi_record.specs.declared.name.Name.{Name}
 use Rattle.edi_schema.specs.declared.role.Role.{Role}
 use Rattle.edi_schema.specs.declared.role.Role.TheVariants.{Initial, Final, Left, Right, Plain}
@@ -118,14 +119,10 @@ placed_kind p Left h = refl
 placed_kind p Right h = refl
 placed_kind p Plain h = absurd cc
 
-some_place : (o : Option ℕ) → is_some o ≡ true → (k : ℕ) × (o ≡ Some k)
-some_place None h = absurd cc
-some_place (Some k) h = (k, refl)
-
 pub second_found : (s more : Classes) (e : Name × Class) (p : ByRole (Option ℕ)) → AreNoted s p → is_some (of_role p e.1.role) ≡ true → AreUnpaired ((s ++ e ∷ []) ++ more)
 second_found s more e p noted taken =
     let kind = placed_kind p e.1.role taken in
-    let at = some_place _ taken in
+    let at = some_is _ taken in
     let some = some_counted (has_role e.1.role) s at.0 (sym (noted.place e.1.role kind) ∙ at.1) in
     let count = count_push (has_role e.1.role) s e true (itself e.1.role) in
     (e.1.role, kind, inl (omega (arith, some, count, count_joined (has_role e.1.role) (s ++ e ∷ []) more)))

@@ -1,7 +1,7 @@
 -- Which classes of a list pointers can name, in another order, and by their places.
 use Rattle.std.proofs.Common.{◌≡◌, ℕ, zero, suc, ◌≤◌, Bool, true, false, not, ◌||◌, true≢false, List, [], ◌∷◌, map, Some, slice_get, count_by, refl, sym, ap, subst, ◌∙◌}
 use Rattle.std.specs.List.{list_any}
-use Rattle.std.proofs.lemmas.Bool.{and_parts}
+use Rattle.std.proofs.lemmas.Bool.{and_parts, not-true}
 use Rattle.std.proofs.lemmas.Option.{none-some, same_Some}
 use Rattle.edi_record.specs.Texts.{is_semicolon}
 use Rattle.edi_record.specs.declared.name.Name.{Name}
@@ -9,8 +9,8 @@ use Rattle.edi_schema.specs.Classes.{Classes, IsSchema, has_role, is_pointable, 
 use Rattle.edi_schema.specs.Roles.{exchanged, is_plain, same_role}
 use Rattle.edi_schema.specs.declared.class.Class.{Class}
 use Rattle.edi_schema.specs.declared.role.Role.{Role}
-use Rattle.edi_schema.proofs.Paired.{itself, one_place, partner, role_there, still_kind}
-use Rattle.edi_schema.proofs.ReadNames.{not_true}
+use Rattle.edi_schema.proofs.Paired.{itself, one_place, partner, role_there}
+use Rattle.edi_schema.proofs.RoleTests.{still_plain}
 
 -- where some pass, one is found at a place
 pub any_at : {X : Type 0} (test : X → Bool) (xs : List X) → list_any test xs ≡ true → (k : ℕ) × (x : X) × (slice_get xs k ≡ Some x) × (test x ≡ true)
@@ -42,7 +42,7 @@ any_of_map test f (x ∷ xs) = ap (λ b. test (f x) || b) (any_of_map test f xs)
 pub by_pointable : (role : Role) (e : Name × Class) → is_pointable role e ≡ true → (has_role role e ≡ true) × (list_any is_semicolon e.0.rty ≡ false)
 by_pointable role e h =
     let both = and_parts (has_role role e) (not (list_any is_semicolon e.0.rty)) h in
-    (both.0, not_true (list_any is_semicolon e.0.rty) both.1)
+    (both.0, not-true (list_any is_semicolon e.0.rty) both.1)
 
 pub makes_pointable : (role : Role) (e : Name × Class) → has_role role e ≡ true → list_any is_semicolon e.0.rty ≡ false → is_pointable role e ≡ true
 makes_pointable role e h none = rw (h, none) refl
@@ -70,5 +70,5 @@ partner_named s keeps c e kind h none =
     let found = partner s keeps c kind in (
       found.1,
       ap (slice_get s) found.2 ∙ found.3,
-      is_the_one s (exchanged role) (keeps.one (exchanged role) (still_kind role ∙ kind)) other found.0 found.1 found.3 found.4,
+      is_the_one s (exchanged role) (keeps.one (exchanged role) (still_plain role ∙ kind)) other found.0 found.1 found.3 found.4,
     )

@@ -1,7 +1,7 @@
 -- The names of the classes that records state are on one line, and their identifiers have no semicolon.
 use Rattle.std.proofs.Common.{◌≡◌, ℕ, suc, ◌-◌, Bool, true, false, not, ◌||◌, true≢false, List, [], ◌∷◌, Some, slice_get, codes, refl, sym, ap, ◌∙◌, subst, arith}
 use Rattle.std.specs.List.{AllByRecursion, AllZip, list_any}
-use Rattle.std.proofs.lemmas.Bool.{and_parts}
+use Rattle.std.proofs.lemmas.Bool.{and_parts, not-true}
 use Rattle.std.proofs.lemmas.List.Elements.{recursion_from_All, All-from_recursion}
 use Rattle.std.proofs.lemmas.List.Sorted.{All-permutation}
 use Rattle.std.proofs.lemmas.Option.{same_Some, none-some}
@@ -46,12 +46,8 @@ whole_text text none = All-from_recursion (λ c. is_semicolon c ≡ false) text 
         go true e f more = absurd (true≢false f)
         go false e f more = (e, more f)
 
-pub not_true : (b : Bool) → not b ≡ true → b ≡ false
-not_true false h = refl
-not_true true h = absurd (true≢false (sym h))
-
 identifier_whole : (text : List ℕ) → is_identifier text ≡ true → HasNoSemicolon text
-identifier_whole text h = whole_text text (not_true _ (and_parts _ _ (and_parts _ _ h).1).1)
+identifier_whole text h = whole_text text (not-true _ (and_parts _ _ (and_parts _ _ h).1).1)
 
 the_one : (test : List ℕ → Bool) (texts : List (List ℕ)) (text : List ℕ) → just_one test texts ≡ true → first texts ≡ Some text → test text ≡ true
 the_one test [] text h e = absurd (none-some text e)

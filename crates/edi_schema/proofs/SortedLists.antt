@@ -1,5 +1,5 @@
 -- Under an order whose ties are equal, lists in order with the same elements are equal.
-use Rattle.std.proofs.Common.{◌≡◌, ℕ, zero, suc, ◌+◌, ◌<◌, ◌≤◌, Bool, true, false, cond, not, List, [], ◌∷◌, map, filter_map, length, get_or, Option, Some, None, refl, sym, ap, ◌∙◌, subst, arith, sum_by, count_by, true≢false, zero-add, IsPermutation, IsSorted, Ordering, Less, Equal, Greater, is_lt, is_gt, is_eq}
+use Rattle.std.proofs.Common.{◌≡◌, suc, ◌+◌, ◌<◌, Bool, true, false, cond, List, [], ◌∷◌, refl, sym, ap, ◌∙◌, subst, arith, sum_by, count_by, true≢false, IsPermutation, IsSorted, Ordering, Less, Equal, Greater, is_lt, is_gt, is_eq}
 use Rattle.std.specs.List.{AllByRecursion}
 use Rattle.std.specs.Cmp.{IsTotalOrder}
 use Rattle.std.specs.Ordering.{ordering_reverse}

@@ -1,7 +1,6 @@
 -- Laws of schemas.
-use Rattle.std.specs.Prelude.{◌≡◌, ℕ, ◌≤◌, List, length, Some}
+use Rattle.std.specs.Prelude.{◌≡◌, ℕ, List, Some}
 use Rattle.std.specs.Ordering.{nat_cmp}
-use Rattle.edi_line.specs.Bytes.{most_records}
 use Rattle.edi_record.specs.declared.name.Name.{Name}
 use Rattle.edi_schema.specs.Roles.{KindCodes}
 use Rattle.edi_schema.specs.Classes.{Classes, IsSchema, IsPaired, name_cmp, class_name_at}

@@ -1,5 +1,5 @@
 -- Two schemas that answer alike name the same classes, and their kinds differ in sides at most.
-use Rattle.std.proofs.Common.{◌≡◌, ◌≢◌, ◌⊎◌, inl, inr, ℕ, zero, suc, ◌+◌, ◌-◌, ◌<◌, ◌≤◌, Bool, true, false, not, cond, ◌&&◌, ◌||◌, true≢false, List, [], ◌∷◌, ◌++◌, length, map, get_or, Option, Some, None, option_map, codes, slice_get, refl, sym, ap, ◌∙◌, subst, arith, lit≤, lit<}
+use Rattle.std.proofs.Common.{◌≡◌, ◌≢◌, ◌⊎◌, inl, inr, ℕ, zero, suc, ◌-◌, ◌<◌, ◌≤◌, true, false, ◌&&◌, true≢false, List, [], ◌∷◌, Option, Some, None, codes, slice_get, refl, sym, ap, ◌∙◌, subst, arith, lit≤, lit<}
 use Rattle.std.specs.Prelude.{is_some, pos}
 use Rattle.std.proofs.lemmas.Option.{none-some, same_Some}
 use Rattle.edi_line.specs.Refusal.{IsUnbroken}

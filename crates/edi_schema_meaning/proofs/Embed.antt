@@ -1,21 +1,23 @@
 -- Where the classes that a pointer can name stand in a schema.
-use Rattle.std.proofs.Common.{◌≡◌, ℕ, zero, suc, ◌+◌, ◌<◌, ◌≤◌, Bool, true, false, cond, not, nat_lt, true≢false, List, [], ◌∷◌, length, map, filter, Option, Some, None, option_map, unwrap_or, slice_get, position, count_by, codes, bytes_eq, refl, sym, ap, ◌∙◌, subst, arith, Ordering, Less, Equal, Greater}
+use Rattle.std.proofs.Common.{◌≡◌, ℕ, zero, suc, ◌+◌, ◌<◌, ◌≤◌, Bool, true, false, cond, nat_lt, true≢false, List, [], ◌∷◌, length, map, Option, Some, None, option_map, unwrap_or, slice_get, position, count_by, refl, sym, ap, ◌∙◌, arith, Ordering, Less, Equal, Greater}
 use Rattle.std.specs.List.{AllByRecursion, list_any, position_or_len}
 use Rattle.std.specs.Ordering.{nat_cmp, MatchOrdering}
 use Rattle.std.specs.Cmp.{nat_cmp_is, ranks}
-use Rattle.std.proofs.lemmas.Bool.{ltb-true, lt-ltb}
+use Rattle.std.proofs.lemmas.Bool.{ltb-true, lt-ltb, false_from_ne_true}
 use Rattle.std.proofs.lemmas.Option.{none-some, same_Some, slice_get-map}
+use Rattle.edi_line.proofs.EachElement.{each_from_found}
 use Rattle.edi_record.specs.Texts.{is_semicolon}
 use Rattle.edi_record.specs.declared.name.Name.{Name}
-use Rattle.edi_schema.proofs.Paired.{itself, role_there, still_kind, there}
+use Rattle.edi_schema.proofs.Paired.{itself, role_there, there}
 use Rattle.edi_schema.proofs.Pointable.{is_the_one, makes_pointable, some_pass}
 use Rattle.edi_schema.specs.Classes.{Classes, IsSchema, class_name_at, has_role, is_name, is_pointable, partner_at, partner_of, place_of, role_of}
 use Rattle.edi_schema.specs.Roles.{exchanged, is_plain, same_role}
 use Rattle.edi_schema.specs.declared.class.Class.{Class}
 use Rattle.edi_schema.specs.declared.role.Role.{Role}
 use Rattle.edi_schema.specs.declared.role.Role.TheVariants.{Plain}
+use Rattle.edi_schema.proofs.RoleTests.{still_plain}
 use Rattle.edi_schema_text.proofs.Meaning.{meaning, meaning_of}
-use Rattle.edi_schema_text.proofs.Named.{bool_false, name_apart, settled_role}
+use Rattle.edi_schema_text.proofs.Named.{name_apart, settled_role}
 
 -- ---- the places
 
@@ -89,7 +91,7 @@ lt-suc a b = go (nat_lt a b) refl
   where
     go : (t : Bool) → nat_lt a b ≡ t → nat_lt (1 + a) (suc b) ≡ t
     go true h = let below : a < b = ltb-true a b h in lt-ltb (1 + a) (suc b) (omega (arith, below))
-    go false h = bool_false (nat_lt (1 + a) (suc b)) (λ g.
+    go false h = false_from_ne_true (nat_lt (1 + a) (suc b)) (λ g.
         let below : 1 + a < suc b = ltb-true (1 + a) (suc b) g in
         let less : a < b = omega (arith, below) in
         true≢false (sym (lt-ltb a b less) ∙ h))
@@ -167,10 +169,6 @@ placed test there agrees (e ∷ s) all = go (list_any is_semicolon e.0.rty) refl
         ∙ (ap (option_map (embed (e ∷ s))) (sym (position-cons there (meaning_of e) (meaning s)))
         ∙ ap (λ l. option_map (embed (e ∷ s)) (position there l)) (sym (meaning_own e s h)))))
 
-pub each_at : {X : Type 0} (P : X → Type 0) (xs : List X) → ((k : ℕ) (x : X) → slice_get xs k ≡ Some x → P x) → AllByRecursion P xs
-each_at P [] all = tt
-each_at P (x ∷ xs) all = (all 0 x refl, each_at P xs (λ k y h. all (suc k) y h))
-
 each : {X : Type 0} (P : X → Type 0) (xs : List X) → ((x : X) → P x) → AllByRecursion P xs
 each P [] all = tt
 each P (x ∷ xs) all = (all x, each P xs all)
@@ -220,7 +218,7 @@ unwrapped f (Some j) k = refl
 pub kind_placed : (s : Classes) (role : Role) → count_by (has_role role) s ≤ 1 → list_any (is_pointable role) s ≡ true → position (has_role role) s ≡ option_map (embed s) (position (has_role role) (meaning s))
 kind_placed s role one some =
     placed (has_role role) (has_role role) (λ e. ap (same_role role) (settled_role e.0.rty e.1)) s
-    (each_at (Skips (has_role role)) s (λ k e h unnamed. bool_false (has_role role e) (λ has. true≢false (sym unnamed ∙ is_the_one s role one some k e h has))))
+    (each_from_found (Skips (has_role role)) s (λ k e h unnamed. false_from_ne_true (has_role role e) (λ has. true≢false (sym unnamed ∙ is_the_one s role one some k e h has))))
 
 pub partner_placed : (s : Classes) → IsSchema s → (k : ℕ) → partner_of s (embed s k) ≡ embed s (partner_of (meaning s) k)
 partner_placed s keeps k = ap (λ o. unwrap_or o (embed s k)) (go (is_plain (role_of s (embed s k))) refl) ∙ unwrapped (embed s) (partner_at (meaning s) k) k
@@ -240,7 +238,7 @@ partner_placed s keeps k = ap (λ o. unwrap_or o (embed s k)) (go (is_plain (rol
         let own : has_role role class.0 ≡ true = ap (same_role role) (sym (role_there s (embed s k) class.0 class.1)) ∙ itself role in
         let named : list_any (is_pointable role) s ≡ true = some_pass (is_pointable role) s (embed s k) class.0 class.1 (makes_pointable role class.0 own (named_there s k class.0 class.1)) in
         let other : list_any (is_pointable (exchanged role)) s ≡ true = sym (keeps.pointable role h) ∙ named in
-        let kind : is_plain (exchanged role) ≡ false = still_kind role ∙ h in
+        let kind : is_plain (exchanged role) ≡ false = still_plain role ∙ h in
         ap (λ t. cond t None (position (has_role (exchanged role)) s)) h
         ∙ (kind_placed s (exchanged role) (keeps.one (exchanged role) kind) other
         ∙ (ap (λ r. option_map (embed s) (position (has_role (exchanged r)) (meaning s))) (sym same)

@@ -15,7 +15,7 @@ use Rattle.edi_plan.specs.declared.record.PlanEnd.{PlanEnd}
 use Rattle.edi_plan.specs.declared.record.PlanRecord.{PlanRecord}
 use Rattle.edi_topo.specs.NodeKeys.{node_key, node_key_cmp}
 use Rattle.edi_rank.specs.InOrder.{AllRise, Both, IsInOrder}
-use Rattle.edi_rank.specs.Keys.{arc_beside, end_cmp, ends_key, face_key_cmp, least_side, link_key, link_key_cmp, marked, numbered, object_key, object_key_cmp, piece_by, side_by, side_of, sides_of}
+use Rattle.edi_rank.specs.Keys.{arc_beside, end_cmp, ends_key, face_key_cmp, least_side, link_key, link_key_cmp, marked, numbered, object_key, object_key_cmp, piece_by, side_by, side_of}
 use Rattle.edi_rank.specs.Turned.{is_forward}
 use Rattle.edi_rank.specs.declared.keys.FaceKey.{FaceKey}
 use Rattle.edi_rank.specs.declared.keys.LinkKey.{LinkKey}

@@ -3,7 +3,7 @@ use Rattle.std.proofs.Common.{◌≡◌, ℕ, zero, suc, ◌<◌, ◌≤◌, Boo
 use Rattle.std.specs.Fmt.{digits}
 use Rattle.std.specs.Prelude.{is_some, nat_le}
 use Rattle.std.specs.List.{AllByRecursion}
-use Rattle.std.proofs.lemmas.Bool.{leb-true}
+use Rattle.std.proofs.lemmas.Bool.{leb-true, and_parts}
 use Rattle.std.proofs.lemmas.Option.{none-some}
 use Rattle.std.proofs.lemmas.Slice.Eq.{bytes_eq-Decides}
 use Rattle.edi_line.proofs.NumberRead.{number_is}
@@ -16,7 +16,6 @@ use Rattle.edi_line.specs.Printing.{line_numbered, zone_headed}
 use Rattle.edi_line.specs.inner.Number.{fraction_number, number, whole_number}
 use Rattle.edi_record.specs.CanonicalZones.{class_text, value_text}
 use Rattle.edi_line.specs.Spelling.{is_printable}
-use Rattle.edi_plan.proofs.Built.{both_true}
 use Rattle.edi_record.specs.RecordLayout.{HasPrintableLetters, Letters, records_layout, zones_of_attribute, zones_of_body, zones_of_record, zones_of_sheet}
 use Rattle.edi_record.specs.Texts.{point_text}
 use Rattle.edi_record.specs.inner.Records.{value_of}
@@ -26,7 +25,7 @@ use Rattle.edi_record.specs.declared.record.Value.TheVariants.{Bytes}
 use Rattle.edi_record.specs.Records.{SheetData}
 use Rattle.edi_schema.specs.Classes.{Classes, IsSchema, place_of, role_named}
 use Rattle.edi_schema.specs.declared.role.Role.{Role}
-use Rattle.edi_plan.specs.Plans.{PlanData, IsPlace, record_at}
+use Rattle.edi_plan.specs.Plans.{PlanData, record_at}
 use Rattle.edi_plan.specs.inner.Resolving.{is_elsewhere}
 use Rattle.edi_rank.specs.InOrder.{IsInOrder}
 use Rattle.edi_topo.proofs.AtPlaces.{breaks_of_node, none_is_broken}
@@ -202,4 +201,4 @@ same_letter s t hs ht alike n plain name att a b ha hb =
     one_letter L (letters t) printable (letters_printable t ht) n plain (laid_out_back t ht c (letter_records n) (letter_plan there.0 b) second again)
   where
     below : (x : ℕ) → is_printable x ≡ true → x < 256
-    below x h = let parts = both_true (nat_le 32 x) (nat_le x 126) h in let low : x ≤ 126 = leb-true x 126 parts.1 in omega (arith, low)
+    below x h = let parts = and_parts (nat_le 32 x) (nat_le x 126) h in let low : x ≤ 126 = leb-true x 126 parts.1 in omega (arith, low)

@@ -9,7 +9,7 @@ use Rattle.edi_record.specs.Texts.{HasNoSemicolon, is_semicolon}
 use Rattle.edi_record.specs.declared.name.Name.{Name}
 use Rattle.edi_schema.proofs.Names.{same_name, ties_name}
 use Rattle.edi_schema.proofs.Ordered.{name_total}
-use Rattle.edi_schema.proofs.Paired.{itself, one_place, one_role, paired, role_there, still_kind, there}
+use Rattle.edi_schema.proofs.Paired.{itself, one_place, one_role, paired, role_there, there}
 use Rattle.edi_schema.proofs.Pointable.{partner_named}
 use Rattle.edi_schema.proofs.ReadNames.{whole_text}
 use Rattle.edi_schema.specs.Classes.{Classes, IsSchema, class_named, has_role, name_cmp, partner_of, role_named, role_of}
@@ -17,6 +17,7 @@ use Rattle.edi_schema.specs.Roles.{exchanged, is_plain, same_role}
 use Rattle.edi_schema.specs.declared.class.Class.{Class}
 use Rattle.edi_schema.specs.declared.role.Role.{Role}
 use Rattle.edi_schema.specs.declared.role.Role.TheVariants.{Initial, Final, Left, Right, Plain}
+use Rattle.edi_schema.proofs.RoleTests.{still_plain}
 use Rattle.edi_plan.proofs.Built.{role_at_place}
 use Rattle.edi_compare.proofs.PrintedBytes.{NameBytes}
 use Rattle.edi_compare.proofs.SchemaBytes.{names_read}
@@ -159,7 +160,7 @@ module _ (s t : Classes) (hs : IsSchema s) (ht : IsSchema t) (bytes : HasByteNam
       -- were it of the same kind as n, the two were one
       taken : (m : Name) → role_named s m ≡ Some (exchanged a) → role_named t m ≡ Some (exchanged a) → ⊥
       taken m hm h =
-          let real : is_plain (exchanged a) ≡ false = still_kind a ∙ kind in
+          let real : is_plain (exchanged a) ≡ false = still_plain a ∙ kind in
           let same : n ≡ m = one_name t ht n m (exchanged a) real ht_n h in
           apart (same_Some a (exchanged a) (sym hs_n ∙ (ap (role_named s) same ∙ hm)))
 

@@ -13,7 +13,7 @@ use Rattle.edi_record.specs.RecordLayout.{FollowsRules, HasPrintableLetters, IsL
 use Rattle.edi_record.specs.CanonicalZones.{value_text}
 use Rattle.edi_record.specs.RecordRules.{is_identifier}
 use Rattle.edi_record.specs.inner.Records.{value_of}
-use Rattle.edi_record.specs.Records.{StatesSheet, has_points, is_link, SheetData}
+use Rattle.edi_record.specs.Records.{SheetData}
 use Rattle.edi_record.specs.Shapes.{kind_code}
 use Rattle.edi_record.specs.Sound.{IsSoundFile}
 use Rattle.edi_record.specs.Texts.{is_semicolon}

@@ -6,6 +6,7 @@ use Rattle.std.proofs.lemmas.Slice.Eq.{bytes_eq-Decides}
 use Rattle.edi_line.specs.ZoneData.{ZoneData}
 use Rattle.edi_line.specs.Refusal.{IsUnbroken}
 use Rattle.edi_line.specs.Zones.{groups_of}
+use Rattle.edi_line.proofs.EachElement.{each_from_found}
 use Rattle.edi_record.specs.Records.{States, SheetData}
 use Rattle.edi_record.specs.Texts.{is_semicolon}
 use Rattle.edi_record.specs.declared.name.Name.{Name}
@@ -19,7 +20,6 @@ use Rattle.edi_plan.specs.ReferenceRules.{BreaksReferenceRule, IsLinkOfRole, IsR
 use Rattle.edi_plan.specs.ReferenceRules.BreaksReferenceRule.{repeats_name, lacks_class, lacks_attribute_class, leaves_subset, names_nothing, joins_wrong, repeats_side}
 use Rattle.edi_compare.specs.PlanOfFile.{IsSheetOf}
 use Rattle.edi_schema_text.proofs.Named.{no_semicolon}
-use Rattle.edi_schema_meaning.proofs.Embed.{each_at}
 
 -- ---- what names a sheet has
 
@@ -41,8 +41,8 @@ pub nameable : (b : List ℕ) (sheet : SheetData) → IsSheetOf b sheet → Name
 nameable b sheet h = each_nameable (groups_of h.0) sheet.list h.2.records
 
 pub attributed : (s : Classes) (list : List Record) → IsUnbroken (BreaksReferenceRule s list) → Attributed list
-attributed s list unbroken = each_at (λ r. AllByRecursion (λ a. a.atp.rty ≡ codes "ATT") r.attributes) list
-    (λ k r here. each_at (λ a. a.atp.rty ≡ codes "ATT") r.attributes (λ i a there. go k r here i a there (bytes_eq a.atp.rty (codes "ATT")) refl))
+attributed s list unbroken = each_from_found (λ r. AllByRecursion (λ a. a.atp.rty ≡ codes "ATT") r.attributes) list
+    (λ k r here. each_from_found (λ a. a.atp.rty ≡ codes "ATT") r.attributes (λ i a there. go k r here i a there (bytes_eq a.atp.rty (codes "ATT")) refl))
   where
     go : (k : ℕ) (r : Record) → slice_get list k ≡ Some r → (i : ℕ) (a : Attribute) → slice_get r.attributes i ≡ Some a → (t : Bool) → bytes_eq a.atp.rty (codes "ATT") ≡ t → a.atp.rty ≡ codes "ATT"
     go k r here i a there true e = (bytes_eq-Decides a.atp.rty (codes "ATT")).0 e

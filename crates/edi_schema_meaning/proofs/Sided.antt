@@ -1,5 +1,5 @@
 -- Two schemas that answer alike don't exchange left and right.
-use Rattle.std.proofs.Common.{◌≡◌, ◌≢◌, ◌⊎◌, inl, inr, ℕ, zero, suc, ◌+◌, ◌<◌, ◌≤◌, Bool, true, false, not, cond, ◌&&◌, ◌||◌, true≢false, List, [], ◌∷◌, ◌++◌, length, map, reverse, Option, Some, None, codes, refl, sym, ap, ◌∙◌, subst, arith, lit≤, lit<, Ordering, Less, Equal, Greater}
+use Rattle.std.proofs.Common.{◌≡◌, ◌≢◌, ◌⊎◌, inl, inr, ℕ, zero, suc, ◌<◌, ◌≤◌, true, false, not, ◌||◌, true≢false, List, [], ◌∷◌, map, Some, None, codes, refl, sym, ap, ◌∙◌, subst, arith, lit≤, lit<, Less, Greater}
 use Rattle.std.specs.Fmt.{digits}
 use Rattle.std.specs.Prelude.{nat_eq, nat_le, pos}
 use Rattle.std.specs.List.{AllByRecursion}

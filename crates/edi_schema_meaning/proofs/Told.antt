@@ -1,10 +1,11 @@
 -- What a file of a few records breaks of the rules of references, and what is told by that.
 use Rattle.std.proofs.Common.{◌≡◌, ◌≢◌, ◌⊎◌, inl, inr, ℕ, zero, suc, ◌<◌, ◌≤◌, Bool, true, false, cond, true≢false, List, [], ◌∷◌, length, get_or, Option, Some, None, option_map, codes, slice_get, refl, sym, ap, ◌∙◌, subst, arith}
 use Rattle.std.specs.Prelude.{Any, is_some}
-use Rattle.std.specs.List.{AllByRecursion, list_any}
-use Rattle.std.specs.Map.{keys_of, lookup}
+use Rattle.std.specs.List.{AllByRecursion}
+use Rattle.std.specs.Map.{keys_of}
 use Rattle.std.proofs.lemmas.Option.{none-some, same_Some}
 use Rattle.edi_line.specs.Refusal.{IsLeastBroken}
+use Rattle.edi_line.proofs.Truths.{some_is, none_is}
 use Rattle.edi_record.specs.Texts.{HasNoSemicolon}
 use Rattle.edi_record.specs.declared.name.Name.{Name}
 use Rattle.edi_record.specs.LinkEnds.{EndData}
@@ -53,14 +54,6 @@ named_placed (e ∷ s) n = go (is_name n e.0) refl (named_placed s n)
     go false h more =
         ap (λ b. is_some (cond b (Some e.1) (class_named s n))) h
         ∙ (more ∙ (sym (mapped_some suc (place_of s n)) ∙ sym (ap is_some (position-cons (is_name n) e.0 (keys_of s) ∙ ap (λ b. cond b (Some 0) (option_map suc (place_of s n))) h))))
-
-some_is : {X : Type 0} (o : Option X) → is_some o ≡ true → (x : X) × (o ≡ Some x)
-some_is None h = absurd (true≢false (sym h))
-some_is (Some x) h = (x, refl)
-
-none_is : {X : Type 0} (o : Option X) → is_some o ≡ false → o ≡ None
-none_is None h = refl
-none_is (Some x) h = absurd (true≢false h)
 
 pub place_some : (s : Classes) (n : Name) (role : Role) → role_named s n ≡ Some role → (k : ℕ) × (place_of s n ≡ Some k)
 place_some s n role h = some_is (place_of s n) (sym (named_placed s n) ∙ (sym (mapped_some (λ c. c.role) (class_named s n)) ∙ ap is_some h))

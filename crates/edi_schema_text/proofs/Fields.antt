@@ -1,6 +1,7 @@
 -- One text begins with the line of one class.
-use Rattle.std.proofs.Common.{◌≡◌, ℕ, ◌≤◌, Bool, true, false, ◌||◌, true≢false, List, [], ◌∷◌, ◌++◌, append_assoc, map, codes, bytes_eq, if◌then◌else◌, ◌==◌, refl, sym, ap, ◌∙◌, subst, arith}
+use Rattle.std.proofs.Common.{◌≡◌, ℕ, Bool, true, false, ◌||◌, true≢false, List, [], ◌∷◌, ◌++◌, append_assoc, map, codes, bytes_eq, if◌then◌else◌, ◌==◌, refl, sym, ap, ◌∙◌, arith}
 use Rattle.std.specs.List.{AllByRecursion, flat_map, list_any}
+use Rattle.std.proofs.lemmas.Bool.{or_parts}
 use Rattle.edi_line.specs.Bytes.{line_feed, semicolon}
 use Rattle.edi_record.specs.Texts.{is_semicolon}
 use Rattle.edi_record.specs.declared.name.Name.{Name}
@@ -13,10 +14,6 @@ use Rattle.edi_schema_text.proofs.Meaning.{meaning_of, settled}
 
 -- ---- cutting
 
-neither : (a b : Bool) → (a || b) ≡ false → (a ≡ false) × (b ≡ false)
-neither true b h = cc
-neither false b h = (refl, h)
-
 same_head : (c d : ℕ) (x y : List ℕ) → c ∷ x ≡ d ∷ y → c ≡ d
 same_head c d x y h = cc
 
@@ -26,10 +23,10 @@ same_tail c d x y h = cc
 -- two texts that hold no such byte, before one
 cut : (test : ℕ → Bool) (c : ℕ) → test c ≡ true → (p q x y : List ℕ) → list_any test p ≡ false → list_any test q ≡ false → p ++ c ∷ x ≡ q ++ c ∷ y → (p ≡ q) × (x ≡ y)
 cut test c is [] [] x y hp hq e = (refl, same_tail c c x y e)
-cut test c is [] (b ∷ q) x y hp hq e = absurd (true≢false (sym is ∙ (ap test (same_head c b x (q ++ c ∷ y) e) ∙ (neither (test b) (list_any test q) hq).0)))
-cut test c is (a ∷ p) [] x y hp hq e = absurd (true≢false (sym is ∙ (ap test (sym (same_head a c (p ++ c ∷ x) y e)) ∙ (neither (test a) (list_any test p) hp).0)))
+cut test c is [] (b ∷ q) x y hp hq e = absurd (true≢false (sym is ∙ (ap test (same_head c b x (q ++ c ∷ y) e) ∙ (or_parts (test b) (list_any test q) hq).0)))
+cut test c is (a ∷ p) [] x y hp hq e = absurd (true≢false (sym is ∙ (ap test (sym (same_head a c (p ++ c ∷ x) y e)) ∙ (or_parts (test a) (list_any test p) hp).0)))
 cut test c is (a ∷ p) (b ∷ q) x y hp hq e =
-    let more = cut test c is p q x y (neither (test a) (list_any test p) hp).1 (neither (test b) (list_any test q) hq).1 (same_tail a b (p ++ c ∷ x) (q ++ c ∷ y) e) in
+    let more = cut test c is p q x y (or_parts (test a) (list_any test p) hp).1 (or_parts (test b) (list_any test q) hq).1 (same_tail a b (p ++ c ∷ x) (q ++ c ∷ y) e) in
     (λ i. same_head a b (p ++ c ∷ x) (q ++ c ∷ y) e i ∷ more.0 i, more.1)
 
 never_empty : (p x : List ℕ) (c : ℕ) → [] ≡ p ++ c ∷ x → ⊥

@@ -4,6 +4,7 @@ use Rattle.std.specs.List.{list_any}
 use Rattle.std.proofs.lemmas.List.Folds.{list_any_none}
 use Rattle.std.proofs.lemmas.Option.{none-some, same_Some}
 use Rattle.std.proofs.lemmas.Slice.Eq.{bytes_eq-Decides}
+use Rattle.std.proofs.lemmas.Bool.{false_from_ne_true}
 use Rattle.edi_record.specs.Texts.{HasNoSemicolon, is_semicolon}
 use Rattle.edi_record.specs.declared.name.Name.{Name}
 use Rattle.edi_schema.proofs.Names.{same_name}
@@ -13,13 +14,9 @@ use Rattle.edi_schema.specs.declared.class.Class.{Class}
 use Rattle.edi_schema_text.specs.SchemaText.{AgreeOn, MeanSame}
 use Rattle.edi_schema_text.proofs.Meaning.{meaning, settled}
 
-pub bool_false : (b : Bool) → (b ≡ true → ⊥) → b ≡ false
-bool_false true other = absurd (other refl)
-bool_false false other = refl
-
 -- a name that a pointer can have isn't that of a class that no pointer can name
 pub name_apart : (n m : Name) → list_any is_semicolon n.rty ≡ false → list_any is_semicolon m.rty ≡ true → is_name n m ≡ false
-name_apart n m none some = bool_false (is_name n m) (λ same. true≢false (sym some ∙ (ap (λ x. list_any is_semicolon x.rty) (sym (same_name n m same)) ∙ none)))
+name_apart n m none some = false_from_ne_true (is_name n m) (λ same. true≢false (sym some ∙ (ap (λ x. list_any is_semicolon x.rty) (sym (same_name n m same)) ∙ none)))
 
 -- at such a name the schema means what it says, settled
 pub named_in : (s : Classes) (n : Name) → list_any is_semicolon n.rty ≡ false → class_named (meaning s) n ≡ option_map (settled n.rty) (class_named s n)
@@ -42,7 +39,7 @@ named_none [] n some = refl
 named_none (e ∷ s) n some = go (list_any is_semicolon e.0.rty) refl (named_none s n some)
   where
     other : list_any is_semicolon e.0.rty ≡ false → is_name n e.0 ≡ false
-    other plain = bool_false (is_name n e.0) (λ same. true≢false (sym some ∙ (ap (λ x. list_any is_semicolon x.rty) (same_name n e.0 same) ∙ plain)))
+    other plain = false_from_ne_true (is_name n e.0) (λ same. true≢false (sym some ∙ (ap (λ x. list_any is_semicolon x.rty) (same_name n e.0 same) ∙ plain)))
 
     go : (b : Bool) → list_any is_semicolon e.0.rty ≡ b → class_named (meaning s) n ≡ None → class_named (meaning (e ∷ s)) n ≡ None
     go true h more = rw h more

@@ -4,6 +4,7 @@ use Rattle.std.specs.List.{AllByRecursion, list_any}
 use Rattle.std.specs.Map.{keys_of}
 use Rattle.std.specs.Ordering.{is_eq, ordering_reverse}
 use Rattle.std.proofs.lemmas.Option.{none-some, same_Some}
+use Rattle.std.proofs.lemmas.Bool.{false_from_ne_true}
 use Rattle.edi_record.specs.Texts.{is_semicolon}
 use Rattle.edi_record.specs.declared.name.Name.{Name}
 use Rattle.edi_schema.proofs.Names.{name_itself, other_name, same_name, ties_name}
@@ -12,14 +13,13 @@ use Rattle.edi_schema.specs.Classes.{Classes, class_named, is_name, name_cmp}
 use Rattle.edi_schema.specs.Sorted.{AlwaysRises}
 use Rattle.edi_schema.specs.declared.class.Class.{Class}
 use Rattle.edi_schema_text.proofs.Meaning.{meaning}
-use Rattle.edi_schema_text.proofs.Named.{bool_false}
 
 -- ---- a name that isn't there
 
 below_all : (n : Name) (s : Classes) → AllByRecursion (λ m. name_cmp n m ≡ Less) (keys_of s) → class_named s n ≡ None
 below_all n [] all = refl
 below_all n (e ∷ s) all =
-    let apart : is_name n e.0 ≡ false = bool_false (is_name n e.0) (λ same. true≢false (sym (name_itself e.0) ∙ (ap (λ m. is_name e.0 m) (sym (same_name n e.0 same)) ∙ other_name n e.0 all.0))) in
+    let apart : is_name n e.0 ≡ false = false_from_ne_true (is_name n e.0) (λ same. true≢false (sym (name_itself e.0) ∙ (ap (λ m. is_name e.0 m) (sym (same_name n e.0 same)) ∙ other_name n e.0 all.0))) in
     rw apart (below_all n s all.1)
 
 above_first : (n : Name) (m : Name) (s : Classes) → name_cmp n m ≡ Less → AllByRecursion (λ k. name_cmp m k ≡ Less) (keys_of s) → AllByRecursion (λ k. name_cmp n k ≡ Less) (keys_of s)

@@ -1,5 +1,5 @@
 -- The nodes and the faces that arcs have by their links.
-use Rattle.std.proofs.Common.{◌≡◌, ◌≢◌, ℕ, suc, ◌+◌, ◌-◌, ◌<◌, ◌≤◌, ◌⊎◌, inl, inr, Bool, true, false, true≢false, List, [], ◌∷◌, ◌++◌, map, length, get_or, refl, sym, ap, ◌∙◌, subst, arith, Ordering, Less, Equal, Greater}
+use Rattle.std.proofs.Common.{◌≡◌, ◌≢◌, ℕ, suc, ◌+◌, ◌-◌, ◌<◌, ◌⊎◌, inl, inr, Bool, true, true≢false, List, [], ◌∷◌, ◌++◌, map, length, get_or, refl, sym, ap, ◌∙◌, subst, arith, Ordering, Less, Equal, Greater}
 use Rattle.std.specs.Bool.{IsTrue}
 use Rattle.std.specs.List.{AllByRecursion}
 use Rattle.std.specs.Ordering.{is_ne, is_eq}
@@ -11,6 +11,7 @@ use Rattle.edi_record.specs.declared.record.Point.{Point}
 use Rattle.edi_schema.specs.Roles.{is_plain}
 use Rattle.edi_schema.specs.declared.role.Role.{Role}
 use Rattle.edi_schema.specs.declared.role.Role.TheVariants.{Initial, Final, Left, Right, Plain}
+use Rattle.edi_schema.proofs.RoleTests.{is_plain_not}
 use Rattle.edi_plan.specs.Joined.{beside, HasEnds, JoinsArc, IsJoin, IsJoined}
 use Rattle.edi_plan.specs.Plans.{PlanData, IsPlace, record_at}
 use Rattle.edi_plan.specs.Sides.{Side, targets}
@@ -74,13 +75,6 @@ one_of_two P (d ∷ f ∷ g ∷ es) a x (inr e) all = cc
 
 -- ---- roles
 
-pub no_plain : (r : Role) → r ≢ Plain → is_plain r ≡ false
-no_plain Initial h = refl
-no_plain Final h = refl
-no_plain Left h = refl
-no_plain Right h = refl
-no_plain Plain h = absurd (h refl)
-
 not_an_arc : (r : Role) → beside r ≡ Par → ⊥
 not_an_arc Initial e = cc
 not_an_arc Final e = cc
@@ -90,7 +84,7 @@ not_an_arc Plain e = cc
 
 module _ (p : PlanData) (joined : IsJoined p) where
   join_of : (a x : ℕ) (role : Role) (s : Side p a role x) → IsJoin p s.link
-  join_of a x role s = record { there = s.there; is_link = s.is_link; not_plain = ap is_plain s.has_role ∙ no_plain role s.not_plain }
+  join_of a x role s = record { there = s.there; is_link = s.is_link; not_plain = ap is_plain s.has_role ∙ is_plain_not role s.not_plain }
 
   other_end : (a x y : ℕ) (xs : List ℕ) → (xs ≡ a ∷ x ∷ []) ⊎ (xs ≡ x ∷ a ∷ []) → (xs ≡ a ∷ y ∷ []) ⊎ (xs ≡ y ∷ a ∷ []) → x ≡ y
   other_end a x y xs (inl e) (inl f) = cc

@@ -10,9 +10,9 @@ use Rattle.std.proofs.lemmas.List.Elements.{All-nil, All-push, All-weaker, Conta
 use Rattle.std.proofs.lemmas.List.Sums.{sum_by_push}
 use Rattle.std.proofs.lemmas.List.Sorted.{length_permutation, All-permutation, Contains-permutation, sum_by-IsPermutation}
 use Rattle.std.proofs.lemmas.Map.Keys.{sorted_from_all_adjacent, Less-from_sorted}
-use Rattle.edi_topo.specs.Ranking.{sum_below, rank}
+use Rattle.edi_topo.specs.Ranking.{keyed, sum_below, rank}
 use Rattle.edi_topo.proofs.Sums.{sum_by-below}
-use Rattle.edi_topo.specs.inner.Keyed.{keyed, AllApart}
+use Rattle.edi_topo.specs.inner.Keyed.{AllApart}
 
 module _ {K : Type 0} (key : ℕ → K) where
   pub length-keyed : (n : ℕ) → length (keyed key n) ≡ n

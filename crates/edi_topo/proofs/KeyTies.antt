@@ -1,5 +1,5 @@
 -- In the order of the keys, the members that follow one with their key are those with the key of an earlier one.
-use Rattle.std.proofs.Common.{◌≡◌, ◌≢◌, ℕ, zero, suc, ◌+◌, ◌-◌, ◌<◌, ◌≤◌, ◌⊎◌, inl, inr, Bool, true, false, true≢false, ◌||◌, nat_eq, List, [], ◌∷◌, ◌++◌, length, get_or, refl, sym, ap, ◌∙◌, subst, arith, All, Contains, IsPermutation, IsSorted, Ordering, Less, Equal, Greater, is_lt, is_gt, nat_cmp, eq-eqb, ne_eqb}
+use Rattle.std.proofs.Common.{◌≡◌, ◌≢◌, ℕ, zero, suc, ◌+◌, ◌-◌, ◌<◌, ◌≤◌, ◌⊎◌, inl, inr, Bool, true, false, true≢false, nat_eq, List, [], ◌∷◌, length, get_or, refl, sym, ap, ◌∙◌, subst, arith, All, Contains, IsPermutation, IsSorted, Ordering, Less, Equal, Greater, is_lt, is_gt, nat_cmp, eq-eqb, ne_eqb}
 use Rattle.std.specs.List.{list_any, AllByRecursion, IsDistinct}
 use Rattle.std.specs.Cmp.{IsTotalOrder, IsEquivalence}
 use Rattle.std.specs.Ordering.{ordering_then, ordering_reverse}
@@ -10,8 +10,8 @@ use Rattle.std.proofs.lemmas.List.Elements.{recursion_from_All}
 use Rattle.std.proofs.lemmas.List.Sorted.{All-permutation, Contains-permutation, length_permutation, ranks_by, sorted_far}
 use Rattle.std.proofs.lemmas.Map.Keys.{IsDistinct-push, IsDistinct-IsPermutation, apart_from_distinct}
 use Rattle.edi_topo.specs.Marks.{AreMarksOf}
-use Rattle.edi_topo.specs.Ranking.{Ties}
-use Rattle.edi_topo.specs.inner.Keyed.{keyed, IsFirstTie, IsLeastRepeat, FollowsItsKey}
+use Rattle.edi_topo.specs.Ranking.{keyed, Ties}
+use Rattle.edi_topo.specs.inner.Keyed.{IsFirstTie, IsLeastRepeat, FollowsItsKey}
 use Rattle.edi_topo.proofs.KeyOrder.{has_member, length-keyed, AreMembers}
 
 module _ {K : Type 0} (key : ℕ → K) where

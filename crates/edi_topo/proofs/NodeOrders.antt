@@ -6,6 +6,7 @@ use Rattle.std.specs.Ordering.{ordering_then}
 use Rattle.std.proofs.lemmas.Cmp.{then_total, on_total, lists_total, nat_cmp_total, tied_itself}
 use Rattle.std.proofs.lemmas.Map.Lookups.{CmpEqualImpliesEq, exact_unsigned}
 use Rattle.std.proofs.lemmas.List.Sorted.{IsPermutation-sym, IsPermutation-trans}
+use Rattle.edi_line.proofs.Truths.{first_tied, then_tied}
 use Rattle.edi_record.specs.Orders.{point_cmp, extra_cmp}
 use Rattle.edi_record.specs.Shapes.{may_have_points}
 use Rattle.edi_record.specs.declared.record.Point.{Point}
@@ -19,7 +20,7 @@ use Rattle.edi_plan.specs.Plans.{PlanData, IsPlace, record_at}
 use Rattle.edi_plan.specs.Whole.{IsWholePlan}
 use Rattle.edi_plan.specs.declared.record.PlanAttribute.{PlanAttribute}
 use Rattle.edi_plan.proofs.DerivedOrders.{attribute_order}
-use Rattle.edi_plan.proofs.Orders.{first_tied, then_tied, exact_lists, point_total, point_exact, attribute_total, attribute_exact, extra_total, extra_exact}
+use Rattle.edi_plan.proofs.Orders.{exact_lists, point_total, point_exact, attribute_total, attribute_exact, extra_total, extra_exact}
 use Rattle.edi_topo.specs.NodeKeys.{node_key, node_key_cmp, no_point}
 use Rattle.edi_topo.specs.TopologyRules.{AreEqualNodes}
 use Rattle.edi_topo.specs.declared.node_key.NodeKey.{NodeKey}

@@ -1,5 +1,5 @@
 -- Members in the order of their keys.
-use Rattle.std.specs.Prelude.{◌≡◌, ℕ, zero, suc, ◌+◌, ◌<◌, ◌≤◌, List, length, slice_index, if◌then◌else◌, ⊤}
+use Rattle.std.specs.Prelude.{◌≡◌, ℕ, zero, suc, ◌+◌, ◌<◌, ◌≤◌, List, [], ◌∷◌, ◌++◌, length, slice_index, if◌then◌else◌, ⊤}
 use Rattle.std.specs.declared.cmp.Ordering.{Ordering}
 use Rattle.std.specs.declared.cmp.Ordering.TheVariants.{Equal}
 use Rattle.std.specs.Ordering.{is_lt}
@@ -10,6 +10,11 @@ use Rattle.edi_topo.specs.declared.fault.TieFault.TheVariants.{Memory, Tie}
 abbrev pub sum_below : ℕ → (ℕ → ℕ) → ℕ
 sum_below zero f = 0
 sum_below (suc n) f = f n + sum_below n f
+
+-- each of the first n members with its key, in their order
+abbrev pub keyed : {K : Type 0} → (ℕ → K) → ℕ → List (K × ℕ)
+keyed key zero = []
+keyed key (suc n) = keyed key n ++ (key n, n) ∷ []
 
 module _ {K : Type 0} (cmp : K → K → Ordering) (key : ℕ → K) (size : ℕ) where
   -- one more than the count of lesser keys

@@ -28,6 +28,6 @@ pub use marks::marks_by_place;
 pub use node_key::{NodeKey, node_key_at};
 pub use nodes::NodeLayer;
 pub use numbers::Ranks;
-pub use ranking::ranks;
+pub use ranking::{members_by_key, ranks};
 pub use sound::{Sound, Unsound};
 pub use tie_marks::ties;

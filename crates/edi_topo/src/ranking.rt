@@ -3,8 +3,8 @@
 ghost use Rattle.std.specs.Prelude.{◌≡◌, ◌≢◌, ◌<◌, ◌≤◌, ◌+◌, ◌-◌, ◌^◌, ℕ, length, slice_index, All, AllPairs, IfOk, IfErr, IsErrOf, IsPermutation, MatchBool, MatchOption, min, IsSorted, OnOk};
 ghost use Rattle.std.specs.List.{slice_index_or};
 ghost use Rattle.std.specs.Ordering.{nat_cmp, ordering_then};
-ghost use Rattle.edi_topo.specs.inner.Keyed.{keyed, AllApart, IsFirstTie, IsLeastRepeatIfAny};
-ghost use Rattle.edi_topo.specs.Ranking.{IsRanking, IsTie, rank};
+ghost use Rattle.edi_topo.specs.inner.Keyed.{AllApart, IsFirstTie, IsLeastRepeatIfAny};
+ghost use Rattle.edi_topo.specs.Ranking.{keyed, IsRanking, IsTie, rank};
 
 use crate::fault::TieFault;
 use crate::layer::Layer;
@@ -25,11 +25,9 @@ fn keyed_members<L: Layer>(alloc: Global, layer: &L) -> Result<Vec<(L::Key, u32)
     Ok(pairs)
 }
 
-/// Each member with its key, in the order of the keys, and of members where keys tie.
-pub(crate) fn members_by_key<L: Layer>(
-    alloc: Global,
-    layer: &L,
-) -> Result<Vec<(L::Key, u32)>, AllocError>
+/// Each member with its key, in the order of the keys, and of members where keys tie. It fails only where memory is
+/// lacking.
+pub fn members_by_key<L: Layer>(alloc: Global, layer: &L) -> Result<Vec<(L::Key, u32)>, AllocError>
     ensures few { OnOk result (L.size layer.now < 2 ^ 32) }
     ensures permutation { IfOk result (λ pairs.
         IsPermutation (keyed (L.key_of layer.now) (L.size layer.now)) pairs.items) }

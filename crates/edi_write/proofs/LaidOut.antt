@@ -1,5 +1,5 @@
 -- The layout of an arranged plan: its records kind by kind, with the numbers of the labels.
-use Rattle.std.proofs.Common.{◌≡◌, ◌≢◌, ℕ, zero, suc, ◌+◌, ◌-◌, ◌<◌, ◌≤◌, Bool, true, false, cond, ◌&&◌, not, List, [], ◌∷◌, ◌++◌, map, take, length, get_or, count_by, append-nil, append_assoc, Some, refl, sym, ap, ap₂, ◌∙◌, subst, arith, eq-eqb}
+use Rattle.std.proofs.Common.{◌≡◌, ◌≢◌, ℕ, zero, suc, ◌+◌, ◌-◌, ◌<◌, ◌≤◌, Bool, true, false, cond, ◌&&◌, not, List, [], ◌∷◌, ◌++◌, map, take, length, get_or, count_by, append-nil, append_assoc, refl, sym, ap, ap₂, ◌∙◌, subst, arith, eq-eqb}
 use Rattle.std.specs.Prelude.{codes, decimal, flat_map, option_to_list}
 use Rattle.std.specs.List.{AllByRecursion, slice_get}
 use Rattle.std.proofs.lemmas.Bool.{ne_eqb}
@@ -10,6 +10,7 @@ use Rattle.std.proofs.lemmas.List.Sorted.{All-permutation, IsPermutation-sym, le
 use Rattle.std.proofs.lemmas.Option.{get_or_from_slice_get}
 use Rattle.edi_line.specs.ZoneData.{ZoneData}
 use Rattle.edi_line.specs.Printing.{zone_text, printed, printed_zone}
+use Rattle.edi_line.proofs.EachElement.{each_from_found}
 use Rattle.edi_record.specs.CanonicalZones.{point_zone, sns_zone, end_text, begin_zone, cse_zone, end_zone}
 use Rattle.edi_record.specs.declared.record.Kind.{Kind}
 use Rattle.edi_record.specs.declared.record.Kind.TheVariants.{Pno, Par, Pfe, Fea, Lnk}
@@ -52,10 +53,6 @@ count_behind test xs ys i j n e none some = ap (count_by test) (take_behind xs y
 none_both : {X : Type 0} (test : X → Bool) (xs ys : List X) → count_by test xs ≡ 0 → count_by test ys ≡ 0 → count_by test (xs ++ ys) ≡ 0
 none_both test xs ys a b = let both = count_both test xs ys in omega (arith, both, a, b)
 
-all_of : {X : Type 0} (P : X → Type 0) (xs : List X) → ((i : ℕ) (x : X) → slice_get xs i ≡ Some x → P x) → AllByRecursion P xs
-all_of P [] h = tt
-all_of P (x ∷ xs) h = (h 0 x refl, all_of P xs (λ i y e. h (suc i) y e))
-
 module _ (s : Classes) (p : PlanData) (l : Labelling) (labels : AreLabels s p l) where
   abbrev kind_at : ℕ → Kind
   kind_at k = (record_at p k).kind
@@ -64,10 +61,10 @@ module _ (s : Classes) (p : PlanData) (l : Labelling) (labels : AreLabels s p l)
   is_of kind k = same_kind kind (kind_at k)
 
   pub places_of_kind : (kind : Kind) → AllByRecursion (IsPlace p) (order_of l kind)
-  places_of_kind kind = all_of (IsPlace p) (order_of l kind) (λ i k e. (labels.orders kind i k e).0)
+  places_of_kind kind = each_from_found (IsPlace p) (order_of l kind) (λ i k e. (labels.orders kind i k e).0)
 
   all_in : (kind : Kind) → AllByRecursion (λ k. kind_at k ≡ kind) (order_of l kind)
-  all_in kind = all_of (λ k. kind_at k ≡ kind) (order_of l kind) (λ i k e. (labels.orders kind i k e).1)
+  all_in kind = each_from_found (λ k. kind_at k ≡ kind) (order_of l kind) (λ i k e. (labels.orders kind i k e).1)
 
   -- ---- how many records of a kind stand before one of them
 

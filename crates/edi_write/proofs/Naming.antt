@@ -1,16 +1,14 @@
 -- The names that are written of a plan tell its records apart.
-use Rattle.std.proofs.Common.{◌≡◌, ℕ, zero, suc, ◌+◌, ◌<◌, ◌≤◌, ◌^◌, ◌⊎◌, inl, inr, Bool, true, false, cond, List, [], ◌∷◌, length, take, drop, get_or, count_by, Option, Some, refl, sym, ap, ◌∙◌, subst, arith, eq-eqb}
+use Rattle.std.proofs.Common.{◌≡◌, ℕ, zero, suc, ◌+◌, ◌<◌, ◌≤◌, ◌^◌, ◌⊎◌, inl, inr, Bool, true, false, cond, List, [], ◌∷◌, length, take, drop, get_or, count_by, refl, sym, ap, ◌∙◌, subst, arith, eq-eqb}
 use Rattle.std.specs.Prelude.{decimal}
 use Rattle.std.proofs.lemmas.Bool.{cases_order}
 use Rattle.std.proofs.lemmas.Fmt.{decimal_injective}
 use Rattle.std.proofs.lemmas.List.{length-take}
 use Rattle.std.proofs.lemmas.List.Sums.{count_by-le-length}
-use Rattle.edi_record.specs.inner.RecordRules.{kind_named}
-use Rattle.edi_record.specs.Shapes.{kind_code}
 use Rattle.edi_record.specs.declared.name.Name.{Name}
 use Rattle.edi_record.specs.declared.record.Kind.{Kind}
 use Rattle.edi_record.specs.declared.record.Kind.TheVariants.{Pno, Par, Pfe, Fea, Lnk}
-use Rattle.edi_record.proofs.Unique.{kind_again}
+use Rattle.edi_record.proofs.KindCodes.{kind_from_code}
 use Rattle.edi_schema.specs.Classes.{Classes, is_name}
 use Rattle.edi_schema.proofs.Names.{same_name}
 use Rattle.edi_schema.proofs.SortedLists.{count_by-cons}
@@ -20,9 +18,6 @@ use Rattle.edi_plan.specs.declared.record.PlanRecord.{PlanRecord}
 use Rattle.edi_write.specs.Layout.{identifier, name_in, number_in}
 
 -- ---- names with other types or numbers
-
-one_code : (a b : Kind) → kind_code a ≡ kind_code b → a ≡ b
-one_code a b e = let s : ◌≡◌ {A = Option Kind} (Some a) (Some b) = sym (kind_again a) ∙ (ap kind_named e ∙ kind_again b) in cc
 
 one_decimal : (kind : Kind) (m n : ℕ) → identifier kind m ≡ identifier kind n → decimal m ≡ decimal n
 one_decimal Pno m n e = ap (drop 1) e
@@ -62,7 +57,7 @@ module _ (s : Classes) (p : PlanData) where
   one_place whole i k h g e = go (cases_order i k)
     where
       kind : (record_at p i).kind ≡ (record_at p k).kind
-      kind = one_code _ _ (ap (λ (n : Name). n.rty) e)
+      kind = kind_from_code _ _ (ap (λ (n : Name). n.rty) e)
 
       number : number_in s p i ≡ number_in s p k
       number = decimal_injective (number_in s p i) (number_in s p k) (number_few whole i) (number_few whole k)

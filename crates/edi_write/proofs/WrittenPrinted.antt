@@ -1,14 +1,14 @@
 -- What is written of a plan that was read can be printed.
-use Rattle.std.proofs.Common.{◌≡◌, ℕ, zero, suc, ◌+◌, ◌-◌, ◌<◌, ◌≤◌, ◌^◌, ℤ, Bool, true, false, cond, not, ◌&&◌, eqb, true≢false, List, [], ◌∷◌, ◌++◌, length, map, get_or, reverse, length-append, Option, Some, None, option_map, unwrap_or, slice_get, position, refl, sym, ap, ap₂, ◌∙◌, subst, arith, nat_lt, IsPermutation, ◌⊎◌, inl, inr, Any}
+use Rattle.std.proofs.Common.{◌≡◌, ℕ, suc, ◌+◌, ◌-◌, ◌<◌, ◌≤◌, ◌^◌, ℤ, Bool, true, false, cond, not, ◌&&◌, eqb, true≢false, List, [], ◌∷◌, ◌++◌, length, map, reverse, length-append, Option, Some, None, option_map, unwrap_or, slice_get, position, refl, sym, ap, ap₂, ◌∙◌, subst, arith, nat_lt, IsPermutation, inl}
 use Rattle.std.specs.Prelude.{codes, decimal, All, IfSome, bytes_eq}
 use Rattle.std.specs.List.{AllByRecursion, AllZip, position_or_len}
 use Rattle.std.specs.Map.{keys_of, lookup}
 use Rattle.std.proofs.lemmas.Bool.{ltb-true, le-leb, ne_eqb}
 use Rattle.std.proofs.lemmas.Fmt.{decimal_is_IsNumeral, length-decimal-le}
 use Rattle.std.proofs.lemmas.List.{length-map}
-use Rattle.std.proofs.lemmas.List.Elements.{recursion_from_All, All-from_recursion, All-cons}
+use Rattle.std.proofs.lemmas.List.Elements.{All-from_recursion, All-cons}
 use Rattle.std.proofs.lemmas.List.Folds.{list_any_none}
-use Rattle.std.proofs.lemmas.List.Sorted.{All-permutation, length_permutation, IsPermutation-reverse}
+use Rattle.std.proofs.lemmas.List.Sorted.{length_permutation, IsPermutation-reverse}
 use Rattle.std.proofs.lemmas.Option.{same_Some, none-some, slice_get_within, get_or_from_slice_get}
 use Rattle.std.proofs.lemmas.Slice.Eq.{bytes_eq-Decides}
 use Rattle.edi_line.specs.Spelling.{Reading, AreReadings}
@@ -50,6 +50,7 @@ use Rattle.edi_record.proofs.SheetStated.{sheet_again}
 use Rattle.edi_record.proofs.Sound.{sheet_sound}
 use Rattle.edi_line.specs.LineRules.{BreaksLineRule, IsZonesOf}
 use Rattle.edi_line.specs.Spelling.{is_printable}
+use Rattle.edi_line.proofs.EachElement.{each_from_places, each_in_any_order, each_from_found, each_weaker}
 use Rattle.edi_schema.specs.declared.class.Class.{Class}
 use Rattle.edi_plan.specs.Agreeing.{Agrees}
 use Rattle.edi_plan.specs.ReferenceRules.{BreaksReferenceRule}
@@ -64,7 +65,6 @@ use Rattle.edi_plan.proofs.Resolved.{role_there}
 use Rattle.edi_rank.specs.Same.{Carries, CarriesRecord, Same, class_after, directed, has_turned_arc, moved}
 use Rattle.edi_rank.proofs.ArrangedUnder.{directed_long}
 use Rattle.edi_rank.proofs.SameLaws.{ends_moved}
-use Rattle.edi_rank.proofs.Unique.{all_places}
 use Rattle.edi_plan.proofs.Built.{zip_at, zip_length, zip_one}
 use Rattle.edi_write.specs.Layout.{class_name_of, no_name, identifier, kind_letter, layout, number_in}
 use Rattle.edi_write.proofs.Naming.{number_few}
@@ -203,9 +203,6 @@ attributes_print s [] (a ∷ xs) names lines all = absurd all
 attributes_print s (b ∷ bs) [] names lines all = absurd all
 attributes_print s (b ∷ bs) (a ∷ xs) names lines all = (attribute_prints s b a names.0 lines.0 all.0, attributes_print s bs xs names.1 lines.1 all.1)
 
-permuted : {X : Type 0} (P : X → Type 0) (xs ys : List X) → IsPermutation xs ys → AllByRecursion P xs → AllByRecursion P ys
-permuted P xs ys same all = recursion_from_All P ys (All-permutation P xs ys same (All-from_recursion P xs all))
-
 names_written : (s : Classes) (xs : List PlanAttribute) → AllByRecursion (Prints s) xs → AllByRecursion (λ b. IsName b.atp) (map (written_attribute s) xs)
 names_written s [] all = tt
 names_written s (a ∷ xs) all = (all.0.0, names_written s xs all.1)
@@ -229,7 +226,7 @@ class_prints s kinds turned x role prints = go (is_plain x.role) (has_turned_arc
     go false false e = prints
 
 points_directed : (P : Point → Type 0) (t : Bool) (ps : List Point) → AllByRecursion P ps → AllByRecursion P (directed t ps)
-points_directed P true ps all = permuted P ps (reverse ps) (IsPermutation-reverse ps) all
+points_directed P true ps all = each_in_any_order P ps (reverse ps) (IsPermutation-reverse ps) all
 points_directed P false ps all = all
 
 no_points : (kind : Kind) (ps : List Point) → may_have_points kind (length ps) ≡ true → has_points kind ≡ false → ps ≡ []
@@ -301,13 +298,13 @@ module _ (s : Classes) (kinds : HasPrintableKinds s) (q : PlanData) (whole : IsW
       points = subst (AllByRecursion IsPoint) (sym c.points) (points_directed IsPoint (turned i) x.points (subst (AllByRecursion IsPoint) (sym states.points) is.points))
 
       print : AllByRecursion (Prints s) y.attributes
-      print = permuted (Prints s) x.attributes y.attributes c.attributes (attributes_print s r.attributes x.attributes is.classes line.attributes states.attributes)
+      print = each_in_any_order (Prints s) x.attributes y.attributes c.attributes (attributes_print s r.attributes x.attributes is.classes line.attributes states.attributes)
 
       moved_ends : IsPermutation (map (moved to) x.ends) y.ends
       moved_ends = ends_moved s to turned i x y c
 
       senses : AllByRecursion (λ e. IfSome e.sns IsOneLine) y.ends
-      senses = permuted (λ e. IfSome e.sns IsOneLine) (map (moved to) x.ends) y.ends moved_ends (senses_moved to x.ends (senses_read list r.ends x.ends line.ends states.ends))
+      senses = each_in_any_order (λ e. IfSome e.sns IsOneLine) (map (moved to) x.ends) y.ends moved_ends (senses_moved to x.ends (senses_read list r.ends x.ends line.ends states.ends))
 
       few_attributes : length r.attributes < 2 ^ 64 → length (map (written_attribute s) y.attributes) < 2 ^ 64
       few_attributes h =
@@ -343,21 +340,13 @@ record_printable s list r p q to turned k kinds is line keeps states c whole the
 at_place : {X : Type 0} (P : X → Type 0) (xs : List X) (k : ℕ) (x : X) → slice_get xs k ≡ Some x → AllByRecursion P xs → P x
 at_place P xs k x h all = Rattle.edi_schema.proofs.Ordered.all_at P xs all k x h
 
-all_found : {X : Type 0} (P : X → Type 0) (xs : List X) → ((k : ℕ) (x : X) → slice_get xs k ≡ Some x → P x) → AllByRecursion P xs
-all_found P [] h = tt
-all_found P (x ∷ xs) h = (h 0 x refl, all_found P xs (λ k y e. h (suc k) y e))
-
-each_of : {X : Type 0} (P Q : X → Type 0) → ((x : X) → P x → Q x) → (xs : List X) → AllByRecursion P xs → AllByRecursion Q xs
-each_of P Q f [] all = tt
-each_of P Q f (x ∷ xs) all = (f x all.0, each_of P Q f xs all.1)
-
 pub written_printable : (s : Classes) (sheet : SheetData) (p q : PlanData) → HasPrintableKinds s → IsPrintableSheet sheet → IsPlanOf s sheet p → Same s p q → IsWholePlan q
     → CanBePrinted q.cse (written_records s q)
 written_printable s sheet p q kinds printable plan same whole = record {
   set = subst (λ c. IfSome c IsOneLine) (sym (c.cse ∙ plan.set)) printable.cse;
-  records = each_of CanPrint IsRecord (λ r h. h.0) (written_records s q) all;
-  lines = each_of CanPrint IsLineRecord (λ r h. h.1) (written_records s q) all;
-  rules = each_of CanPrint FollowsRules (λ r h. h.2) (written_records s q) all;
+  records = each_weaker CanPrint IsRecord (λ r h. h.0) (written_records s q) all;
+  lines = each_weaker CanPrint IsLineRecord (λ r h. h.1) (written_records s q) all;
+  rules = each_weaker CanPrint FollowsRules (λ r h. h.2) (written_records s q) all;
 }
   where
     c : Carries s same.0 same.1 p q
@@ -371,7 +360,7 @@ written_printable s sheet p q kinds printable plan same whole = record {
         d.2 c whole h
 
     all : AllByRecursion CanPrint (written_records s q)
-    all = all_found CanPrint (written_records s q) each
+    all = each_from_found CanPrint (written_records s q) each
       where
         each : (k : ℕ) (r : Record) → slice_get (written_records s q) k ≡ Some r → CanPrint r
         each k r e =
@@ -404,16 +393,16 @@ module _ (s : Classes) (sheet : SheetData) (p : PlanData) (unbroken : IsUnbroken
   types_at : (k : ℕ) → IsPlace p k → AllByRecursion (λ a. (class_name_of s a.atp).rty ≡ codes "ATT") (record_at p k).attributes
   types_at k h =
       let d = zip_at (StatesPlanRecord s sheet.list) sheet.list p.list plan.each k blank h in
-      types_stated s d.0.attributes (record_at p k).attributes (all_found (λ b. b.atp.rty ≡ codes "ATT") d.0.attributes (λ i b e. type_read k d.0 d.1 i b e)) d.2.attributes
+      types_stated s d.0.attributes (record_at p k).attributes (each_from_found (λ b. b.atp.rty ≡ codes "ATT") d.0.attributes (λ i b e. type_read k d.0 d.1 i b e)) d.2.attributes
 
 pub attribute_classes : (s : Classes) (sheet : SheetData) (p q : PlanData) → IsUnbroken (BreaksReferenceRule s sheet.list) → IsPlanOf s sheet p → Same s p q → HasAttributeClasses s q
-attribute_classes s sheet p q unbroken plan same = all_places (λ r. AllByRecursion (λ a. (class_name_of s a.atp).rty ≡ codes "ATT") r.attributes) q.list blank each
+attribute_classes s sheet p q unbroken plan same = each_from_places (λ r. AllByRecursion (λ a. (class_name_of s a.atp).rty ≡ codes "ATT") r.attributes) q.list blank each
   where
     each : (k : ℕ) → IsPlace q k → AllByRecursion (λ a. (class_name_of s a.atp).rty ≡ codes "ATT") (record_at q k).attributes
     each k h =
         let from = same.2.places.onto k h in
         subst (λ j. AllByRecursion (λ a. (class_name_of s a.atp).rty ≡ codes "ATT") (record_at q j).attributes) from.2
-        (permuted (λ a. (class_name_of s a.atp).rty ≡ codes "ATT") (record_at p from.0).attributes (record_at q (same.0 from.0)).attributes (same.2.each from.0 from.1).attributes (types_at s sheet p unbroken plan from.0 from.1))
+        (each_in_any_order (λ a. (class_name_of s a.atp).rty ≡ codes "ATT") (record_at p from.0).attributes (record_at q (same.0 from.0)).attributes (same.2.each from.0 from.1).attributes (types_at s sheet p unbroken plan from.0 from.1))
 
 -- ---- the layout, read again
 

@@ -14,8 +14,9 @@ use Rattle.edi_line.specs.inner.Number.{number}
 use Rattle.edi_line.specs.Printing.{zone_text, printed}
 use Rattle.edi_line.proofs.NumberRead.{number_is}
 use Rattle.edi_line.proofs.Numbers.{number_in_range}
+use Rattle.edi_line.proofs.EachElement.{each_from_places}
 use Rattle.edi_record.specs.CanonicalZones.{class_text, value_text, point_zone, set_zone, extra_zone, begin_zone, cse_zone, end_zone}
-use Rattle.edi_record.specs.RecordLayout.{Letters, settled, settled_record, settled_end, IsOwnValue}
+use Rattle.edi_record.specs.RecordLayout.{settled, settled_record, settled_end, IsOwnValue}
 use Rattle.edi_record.specs.RecordLayout as records
 use Rattle.edi_record.specs.inner.Records.{value_of}
 use Rattle.edi_record.specs.Shapes.{may_have_points, may_have_ends, kind_code}
@@ -41,7 +42,6 @@ use Rattle.edi_plan.proofs.Resolved.{role_there}
 use Rattle.edi_write.specs.Layout.{record_zones, attribute_zones, body_zones, end_zones, zones_from, name_in, number_in, class_letter_of, class_name_of, no_name, identifier, layout}
 use Rattle.edi_write.specs.Written.{letters, written_attribute, written_end, written_record, written_from, written_records}
 use Rattle.edi_write.proofs.Naming.{names_apart}
-use Rattle.edi_rank.proofs.Unique.{all_places}
 
 -- ---- a class by its name
 
@@ -136,7 +136,7 @@ zones_same s keeps p place [] agree shaped = refl
 zones_same s keeps p place (r ∷ rs) agree shaped = ap₂ ◌++◌ (record_same s keeps p (number_in s p place) r agree.0 shaped.0) (zones_same s keeps p (place + 1) rs agree.1 shaped.1)
 
 pub all_shaped : (p : PlanData) → IsWholePlan p → AllByRecursion IsShaped p.list
-all_shaped p whole = all_places IsShaped p.list blank (λ k h. (whole.points k h, whole.ends k h))
+all_shaped p whole = each_from_places IsShaped p.list blank (λ k h. (whole.points k h, whole.ends k h))
 
 pub written_layout : (s : Classes) (p : PlanData) → IsSchema s → IsWholePlan p → Agrees s p → layout s p ≡ records.records_layout (letters s) p.cse (written_records s p)
 unfolding layout
@@ -265,5 +265,5 @@ pub written_plan : (s : Classes) (p : PlanData) (sheet : SheetData) → IsSchema
 written_plan s p sheet keeps whole agrees set list = record {
   set = sym set;
   each = subst (λ rs. AllZip (StatesPlanRecord s rs) rs p.list) (sym list)
-      (states_each s keeps p (read_records s p) (read_named s p whole) 0 p.list agrees (all_places (EndsThere p) p.list blank whole.there));
+      (states_each s keeps p (read_records s p) (read_named s p whole) 0 p.list agrees (each_from_places (EndsThere p) p.list blank whole.there));
 }

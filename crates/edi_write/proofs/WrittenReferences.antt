@@ -1,9 +1,10 @@
 -- The records that are written of a plan, as they are read, break no rule of references.
-use Rattle.std.proofs.Common.{◌≡◌, ◌≢◌, ℕ, zero, suc, ◌-◌, ◌<◌, ◌⊎◌, inl, inr, false, true≢false, List, [], ◌∷◌, ◌++◌, length, map, get_or, Some, None, slice_get, refl, sym, ap, ◌∙◌, subst, arith, Any}
-use Rattle.std.specs.Prelude.{codes, flat_map}
+use Rattle.std.proofs.Common.{◌≡◌, ◌≢◌, ℕ, zero, suc, ◌-◌, ◌<◌, ◌⊎◌, inl, inr, false, true≢false, List, [], ◌∷◌, length, map, get_or, Some, None, slice_get, refl, sym, ap, ◌∙◌, subst, arith, Any}
+use Rattle.std.specs.Prelude.{codes}
 use Rattle.std.specs.List.{AllByRecursion}
 use Rattle.std.proofs.lemmas.Option.{same_Some, none-some}
 use Rattle.edi_line.specs.Refusal.{IsUnbroken}
+use Rattle.edi_line.proofs.EachElement.{each_at, each_joined, each_from_found}
 use Rattle.edi_record.specs.RecordLayout.{settled, settled_end, settled_record}
 use Rattle.edi_record.specs.declared.record.Attribute.{Attribute}
 use Rattle.edi_record.specs.LinkEnds.{EndData}
@@ -33,26 +34,9 @@ use Rattle.edi_write.proofs.WrittenRecords.{place_there, read_records, read_reco
 
 -- ---- lists
 
-all_at : {X : Type 0} (P : X → Type 0) (xs : List X) (k : ℕ) (d : X) → k < length xs → AllByRecursion P xs → P (get_or xs k d)
-all_at P [] k d h all = absurd (omega (arith, h))
-all_at P (x ∷ xs) zero d h all = all.0
-all_at P (x ∷ xs) (suc k) d h all = all_at P xs k d (omega (arith, h)) all.1
-
 -- what holds of none is not met
 none_met : {X : Type 0} (P Q : X → Type 0) → ((x : X) → Q x → P x → ⊥) → (xs : List X) → AllByRecursion Q xs → Any P xs → ⊥
-none_met P Q apart xs all some = apart some.1 (subst Q some.3 (all_at Q xs some.0 some.1 some.2 all)) some.4
-
-all_joined : {X Y : Type 0} (P : Y → Type 0) (f : X → List Y) (xs : List X) → AllByRecursion (λ x. AllByRecursion P (f x)) xs → AllByRecursion P (flat_map f xs)
-all_joined P f [] all = tt
-all_joined P f (x ∷ xs) all = both (f x) all.0 (all_joined P f xs all.1)
-  where
-    both : (ys : List _) → AllByRecursion P ys → AllByRecursion P (flat_map f xs) → AllByRecursion P (ys ++ flat_map f xs)
-    both [] one more = more
-    both (y ∷ ys) one more = (one.0, both ys one.1 more)
-
-all_found : {X : Type 0} (P : X → Type 0) (xs : List X) → ((k : ℕ) (x : X) → slice_get xs k ≡ Some x → P x) → AllByRecursion P xs
-all_found P [] h = tt
-all_found P (x ∷ xs) h = (h 0 x refl, all_found P xs (λ k y e. h (suc k) y e))
+none_met P Q apart xs all some = apart some.1 (subst Q some.3 (each_at Q xs some.0 some.1 some.2 all)) some.4
 
 -- the two of a list of two
 abbrev Two : (es : List PlanEnd) (a b : ℕ) → Type 0
@@ -112,7 +96,7 @@ module _ (s : Classes) (p : PlanData) (keeps : IsSchema s) (whole : IsWholePlan 
   no_attribute_lacks : HasAttributeClasses s p → (at : ℕ) → LacksAttributeClass s list at → ⊥
   no_attribute_lacks types at h =
       let r = at_back at h.0 h.1.1 in
-      let all = found (record_at p (at - 1)).attributes (agrees_at (at - 1) r.0).attributes (all_at (λ x. AllByRecursion (λ a. (class_name_of s a.atp).rty ≡ codes "ATT") x.attributes) p.list (at - 1) blank r.0 types) in
+      let all = found (record_at p (at - 1)).attributes (agrees_at (at - 1) r.0).attributes (each_at (λ x. AllByRecursion (λ a. (class_name_of s a.atp).rty ≡ codes "ATT") x.attributes) p.list (at - 1) blank r.0 types) in
       none_met (λ b. (b.atp.rty ≢ codes "ATT") ⊎ (place_of s b.atp ≡ None)) IsFound unfound h.0.attributes (subst (λ (x : Record). AllByRecursion IsFound x.attributes) (sym r.1) all) h.2
 
   -- ---- ends
@@ -125,7 +109,7 @@ module _ (s : Classes) (p : PlanData) (keeps : IsSchema s) (whole : IsWholePlan 
   ours (e ∷ es) = ((refl, refl), ours es)
 
   all_ours : AllByRecursion (λ (r : Record). AllByRecursion IsOurs r.ends) list
-  all_ours = all_found (λ (r : Record). AllByRecursion IsOurs r.ends) list (λ k r e. subst (λ (x : Record). AllByRecursion IsOurs x.ends) (sym (read_back s p k r e).1) (ours (record_at p k).ends))
+  all_ours = each_from_found (λ (r : Record). AllByRecursion IsOurs r.ends) list (λ k r e. subst (λ (x : Record). AllByRecursion IsOurs x.ends) (sym (read_back s p k r e).1) (ours (record_at p k).ends))
 
   one_subset : (e d : EndData) → IsOurs e → IsOurs d → ((d.lot ≢ e.lot) ⊎ (d.subset ≢ e.subset)) → ⊥
   one_subset e d is is' (inl other) = other (is'.0 ∙ sym is.0)
@@ -134,7 +118,7 @@ module _ (s : Classes) (p : PlanData) (keeps : IsSchema s) (whole : IsWholePlan 
   no_subset_leaves : (at : ℕ) → LeavesSubset s list at → ⊥
   no_subset_leaves at h =
       let r = at_back at h.0 h.3.1 in
-      let first : IsOurs h.1 = (subst (AllByRecursion IsOurs) h.4 (all_joined IsOurs (λ (q : Record). q.ends) list all_ours)).0 in
+      let first : IsOurs h.1 = (subst (AllByRecursion IsOurs) h.4 (each_joined IsOurs (λ (q : Record). q.ends) list all_ours)).0 in
       none_met (λ d. (d.lot ≢ h.1.lot) ⊎ (d.subset ≢ h.1.subset)) IsOurs (λ d is. one_subset h.1 d first is) h.0.ends
       (subst (λ (x : Record). AllByRecursion IsOurs x.ends) (sym r.1) (ours (record_at p (at - 1)).ends)) h.5
 

@@ -13,7 +13,7 @@ use Rattle.edi_rank.specs.Same.{directed}
 use Rattle.edi_topo.specs.Arcs.{forward_keys}
 use Rattle.edi_topo.specs.NodeKeys.{no_node, node_keys}
 use Rattle.edi_topo.specs.TopologyRules.{BreaksTopologyRule}
-use Rattle.edi_topo.specs.inner.Keyed.{keyed}
+use Rattle.edi_topo.specs.Ranking.{keyed}
 use Rattle.edi_topo.specs.declared.node_key.NodeKey.{NodeKey}
 use Rattle.edi_matching.specs.Differences.{HoldsSame, ArePartners}
 

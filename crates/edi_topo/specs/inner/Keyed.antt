@@ -1,13 +1,8 @@
 -- Members put in the order of their keys.
-use Rattle.std.specs.Prelude.{◌≡◌, ◌≢◌, ℕ, zero, suc, ◌+◌, ◌<◌, List, [], ◌∷◌, ◌++◌, ◌≤◌, length, slice_index_or, Option, MatchOption}
+use Rattle.std.specs.Prelude.{◌≡◌, ◌≢◌, ℕ, ◌+◌, ◌<◌, List, ◌≤◌, length, slice_index_or, Option, MatchOption}
 use Rattle.std.specs.List.{AllAdjacentBelow}
 use Rattle.std.specs.declared.cmp.Ordering.{Ordering}
 use Rattle.std.specs.declared.cmp.Ordering.TheVariants.{Equal}
-
--- each of the first n members with its key, in their order
-abbrev pub keyed : {K : Type 0} → (ℕ → K) → ℕ → List (K × ℕ)
-keyed key zero = []
-keyed key (suc n) = keyed key n ++ (key n, n) ∷ []
 
 -- of the first n places, the least member that follows one with its key
 pub record IsLeastRepeat {K : Type 0} (cmp : K → K → Ordering) (pairs : List (K × ℕ)) (n member : ℕ) : Type 0 where

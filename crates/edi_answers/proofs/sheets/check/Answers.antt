@@ -1,4 +1,5 @@
 use Rattle.std.proofs.Common.{◌∙◌, Some, ap, arith, inr, refl}
+use Rattle.std.proofs.lemmas.Result.{on_ok_weaker}
 use Rattle.edi_compare.specs.Runs.{seen}
 use Rattle.edi_compare.proofs.Refusals.{err_kept}
 use Rattle.edi_compare.specs.Runs.{IsSheetUnder}
@@ -6,14 +7,13 @@ use Rattle.edi_answers.specs.Effects.{inputs}
 use Rattle.edi_answers.specs.SheetRuns.{AreThere, FileFault}
 use Rattle.edi_answers.proofs.Faults.{failed_at, file_fault, if_err_map, input_fault}
 use Rattle.edi_answers.proofs.Kept.{files_kept, note_given, three_kept, unread}
-use Rattle.edi_answers.proofs.Made.{on_ok_map}
 use Rattle.edi_answers.proofs.Noted.{note_anyway, note_failed}
 use Rattle.edi_answers.proofs.sheets.check.Goals as goal
 
 pub returns-clause-ok : goal.returns-clause-ok
 returns-clause-ok g c =
     let contents = g.F.Reader.ByteIn.contents in
-    on_ok_map c.run_check.result _ _
+    on_ok_weaker c.run_check.result
     (λ h. (
       contents c.in_ok-scd.scd,
       contents c.in_ok-dic.dic,

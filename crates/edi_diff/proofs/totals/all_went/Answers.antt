@@ -1,5 +1,6 @@
 use Rattle.std.proofs.Common.{below_more, true≢false, sym}
-use Rattle.edi_diff.proofs.Outcomes.{some_there, none_gone}
+use Rattle.edi_line.proofs.Truths.{some_is}
+use Rattle.edi_diff.proofs.Outcomes.{none_gone}
 use Rattle.edi_diff.proofs.totals.all_went.Goals as goal
 
 pub returns-then-is_none : goal.returns-then-is_none
@@ -9,4 +10,4 @@ returns-then-is_none c = (
 )
 
 pub loop-went-preserved : goal.loop-went-preserved
-loop-went-preserved c = below_more _ _ c.loop-went.invariant (some_there _ c.if-is_none.ensures)
+loop-went-preserved c = below_more _ _ c.loop-went.invariant (some_is _ c.if-is_none.ensures)

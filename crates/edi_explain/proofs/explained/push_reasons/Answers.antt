@@ -1,10 +1,7 @@
-use Rattle.std.proofs.Common.{◌≡◌, ◌∙◌, ◌++◌, List, ℕ, Result, Ok, Err, OnOk, ap, ap₂, codes, append_assoc}
+use Rattle.std.proofs.Common.{◌≡◌, ◌∙◌, ◌++◌, List, ℕ, ap, ap₂, codes, append_assoc}
+use Rattle.std.proofs.lemmas.Result.{on_ok_weaker}
 use Rattle.edi_explain.specs.Explained.{worded_line}
 use Rattle.edi_explain.proofs.explained.push_reasons.Goals as goal
-
-on_ok : {T E : Type 0} (r : Result T E) (P Q : Type 0) → (P → Q) → OnOk r P → OnOk r Q
-on_ok (Ok v) P Q f h = f h
-on_ok (Err e) P Q f h = tt
 
 three : (o a b d x y z u v w : List ℕ) → a ≡ o ++ x → b ≡ a ++ y → d ≡ b ++ z → x ≡ u → y ≡ v → z ≡ w → d ≡ o ++ ((u ++ v) ++ w)
 three o a b d x y z u v w first second third f g h =
@@ -13,6 +10,6 @@ three o a b d x y z u v w first second third f g h =
 
 pub returns : goal.returns
 returns c =
-    on_ok c.push_line-3.result _ _ (λ third. three _ _ _ _ _ _ _ _ _ _ c.in_ok-push_line.ensures c.in_ok-push_line-2.ensures third
+    on_ok_weaker c.push_line-3.result (λ third. three _ _ _ _ _ _ _ _ _ _ c.in_ok-push_line.ensures c.in_ok-push_line-2.ensures third
     (ap (worded_line (codes "Why: ")) c.as_bytes.ensures.value) (ap (worded_line (codes "Usual cause: ")) c.as_bytes-2.ensures.value)
     (ap (worded_line (codes "What to do: ")) c.as_bytes-3.ensures.value)) c.push_line-3.ensures

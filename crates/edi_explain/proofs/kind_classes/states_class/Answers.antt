@@ -1,8 +1,8 @@
 use Rattle.std.proofs.Common.{◌≡◌, ◌≢◌, ◌∙◌, List, ℕ, Option, true, sym, ap, rules}
+use Rattle.std.proofs.lemmas.Option.{same_Some}
 use Rattle.edi_schema.specs.Roles.{role_by}
 use Rattle.edi_schema.specs.declared.role.Role.TheVariants.{Plain}
 use Rattle.edi_explain.specs.KindClasses.{codes_of}
-use Rattle.edi_explain.proofs.Names.{same_some}
 use Rattle.edi_explain.proofs.kind_classes.states_class.Goals as goal
 
 pub returns-then-ne : goal.returns-then-ne
@@ -13,6 +13,6 @@ returns-then-ne c =
       λ t. let t' : c.eq.result ≡ true = t in let e : c.role_of.result ≡ c.args.role = search rules in
           let proper : c.args.role ≢ Plain = search rules in
           (record { rty = c.in-Some.field-0.now; rid = rid }, record { rty = sym c.in-Some.ensures; rid = sym c.in-Some-first_value.ensures }, sym role ∙ e, proper),
-      λ h. let same : rid ≡ h.0.rid = same_some (c.in-Some-first_value.ensures ∙ h.1.rid) in
+      λ h. let same : rid ≡ h.0.rid = same_Some _ _ (c.in-Some-first_value.ensures ∙ h.1.rid) in
           let e : c.role_of.result ≡ c.args.role = role ∙ (ap (role_by kinds _) same ∙ h.2) in search rules,
     )

@@ -1,7 +1,8 @@
 use Rattle.std.proofs.Common.{◌∙◌, ◌++◌, ap, codes}
+use Rattle.std.proofs.lemmas.Result.{on_ok_weaker}
 use Rattle.edi_json.specs.Members.{member_tokens}
 use Rattle.edi_json.specs.Values.{number_value}
-use Rattle.edi_json.proofs.LineLemmas.{ended, two_more}
+use Rattle.edi_json.proofs.LineLemmas.{two_more}
 use Rattle.edi_json.proofs.lines.write_counts.Goals as goal
 
 pub returns-clause-tokens : goal.returns-clause-tokens
@@ -13,4 +14,4 @@ returns-clause-tokens c =
     let two = two_more old _ _ _ _ c.in_ok-begin.ensures.tokens gone in
     let three = two_more old _ _ _ _ two added in
     let four = two_more old _ _ _ _ three changed in
-    ended c.end_object.result _ _ (two_more old _ _ _ _ four) c.end_object.ensures.ok
+    on_ok_weaker c.end_object.result (two_more old _ _ _ _ four) c.end_object.ensures.ok

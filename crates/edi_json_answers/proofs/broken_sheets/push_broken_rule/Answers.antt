@@ -1,7 +1,8 @@
 use Rattle.std.proofs.Common.{◌∙◌, ◌++◌, List, ap}
+use Rattle.std.proofs.lemmas.Result.{on_ok_weaker}
 use Rattle.json.specs.Token.{Token}
 use Rattle.json.specs.Tree.{json_tokens}
-use Rattle.edi_json.proofs.LineLemmas.{ended, one_line}
+use Rattle.edi_json.proofs.LineLemmas.{one_line}
 use Rattle.edi_json_answers.specs.BrokenSheets.{broken_rule_value}
 use Rattle.edi_json_answers.proofs.SheetValues.{broken_rule_fit}
 use Rattle.edi_json_answers.proofs.broken_sheets.push_broken_rule.Goals as goal
@@ -10,7 +11,7 @@ pub returns : goal.returns
 returns c =
     let value = broken_rule_value c.args.name.now c.args.it in
     let fit = broken_rule_fit c.args.name.now c.args.it in
-    ended c.end_line.result _ _
+    on_ok_weaker c.end_line.result
     (one_line value fit.shallow fit.plain c.args.text.now.items c.write_broken_rule.new.writer.before c.end_line.new.text.items c.write_broken_rule.new.writer.tokens
     (c.in_ok-write_broken_rule.ensures.before ∙ c.begin_line-writer.ensures.before)
     (c.in_ok-write_broken_rule.ensures.tokens ∙ ap (λ (ts : List Token). ts ++ json_tokens value) c.begin_line-writer.ensures.tokens)

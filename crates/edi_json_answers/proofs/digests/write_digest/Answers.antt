@@ -1,4 +1,5 @@
-use Rattle.edi_json.proofs.LineLemmas.{ended, two_more}
+use Rattle.std.proofs.lemmas.Result.{on_ok_weaker}
+use Rattle.edi_json.proofs.LineLemmas.{two_more}
 use Rattle.edi_json_answers.proofs.digests.write_digest.Goals as goal
 
 pub returns-clause-tokens : goal.returns-clause-tokens
@@ -7,4 +8,4 @@ returns-clause-tokens c =
     let two = two_more old _ _ _ _ c.in_ok-begin.ensures.tokens c.in_ok-put_text.ensures.tokens in
     let three = two_more old _ _ _ _ two c.in_ok-put_bytes.ensures.tokens in
     let four = two_more old _ _ _ _ three c.in_ok-put_text-2.ensures.tokens in
-    ended c.end_object.result _ _ (two_more old _ _ _ _ four) c.end_object.ensures.ok
+    on_ok_weaker c.end_object.result (two_more old _ _ _ _ four) c.end_object.ensures.ok

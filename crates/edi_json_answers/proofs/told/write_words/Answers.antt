@@ -1,8 +1,9 @@
-use Rattle.edi_json.proofs.LineLemmas.{ended, two_more}
+use Rattle.std.proofs.lemmas.Result.{on_ok_weaker}
+use Rattle.edi_json.proofs.LineLemmas.{two_more}
 use Rattle.edi_json_answers.proofs.told.write_words.Goals as goal
 
 pub returns-clause-tokens : goal.returns-clause-tokens
 returns-clause-tokens c =
     let old = c.args.writer.now.tokens in
     let two = two_more old _ _ _ _ c.in_ok-begin.ensures.tokens c.in_ok-put_bytes.ensures.tokens in
-    ended c.end_object.result _ _ (two_more old _ _ _ _ two) c.end_object.ensures.ok
+    on_ok_weaker c.end_object.result (two_more old _ _ _ _ two) c.end_object.ensures.ok

@@ -1,4 +1,5 @@
 use Rattle.std.proofs.Common.{◌∙◌, ℕ, subst}
+use Rattle.std.proofs.lemmas.Result.{IfOk-weaker}
 use Rattle.edi_record.specs.declared.record.Kind.TheVariants.{Pfe}
 use Rattle.edi_plan.specs.Joined.{IsJoined}
 use Rattle.edi_plan.specs.Whole.{IsWholePlan}
@@ -6,7 +7,6 @@ use Rattle.edi_matching.specs.Matchings.{IsMatched}
 use Rattle.edi_matching.specs.declared.matching.Matching.{Matching}
 use Rattle.edi_matching.specs.inner.Links.{AddsOnly}
 use Rattle.edi_matching.proofs.FacesAdded.{both_sides}
-use Rattle.edi_matching.proofs.PairsAdded.{if_ok}
 use Rattle.edi_matching.proofs.faces.with_all_faces.Goals as goal
 
 pub returns-clause-faces : goal.returns-clause-faces
@@ -18,5 +18,5 @@ returns-clause-faces c =
 pub returns-clause-keeps : goal.returns-clause-keeps
 returns-clause-keeps c =
     let more = c.in_ok-more.more in
-    if_ok c.with_faces-2.result (AddsOnly Pfe c.args.first.now more) (λ (m : Matching). (i : ℕ) → IsMatched c.args.matching.to i → IsMatched m.to i)
+    IfOk-weaker c.with_faces-2.result (AddsOnly Pfe c.args.first.now more) (λ (m : Matching). (i : ℕ) → IsMatched c.args.matching.to i → IsMatched m.to i)
     (λ m adds i w. (w.0, adds.keeps i w.0 (c.in_ok-more.ensures.adds.keeps i w.0 w.1))) c.with_faces-2.ensures.adds

@@ -1,5 +1,6 @@
+use Rattle.std.proofs.lemmas.Result.{on_ok_weaker}
 use Rattle.edi_matching.specs.inner.Inverses.{Grows}
-use Rattle.edi_matching.proofs.PairsAdded.{grows_by, grows_then, on_ok}
+use Rattle.edi_matching.proofs.PairsAdded.{grows_by, grows_then}
 use Rattle.edi_matching.proofs.growing.add_more.Goals as goal
 
 pub returns : goal.returns
@@ -8,6 +9,6 @@ returns c =
     let faces = c.add_faces.new.to in
     let objects = c.add_all_objects.new.to in
     let links = c.add_all_links.new.to in
-    on_ok c.add_all_links.result (Grows objects links) (Grows start links)
+    on_ok_weaker {P = Grows objects links} {Q = Grows start links} c.add_all_links.result
     (λ h. grows_then start objects links (grows_then start faces objects (grows_by _ start _ faces _ c.in_ok-add_faces.ensures) c.in_ok-add_all_objects.ensures) h)
     c.add_all_links.ensures

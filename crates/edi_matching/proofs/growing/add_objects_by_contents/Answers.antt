@@ -1,6 +1,7 @@
 use Rattle.std.proofs.Common.{◌∙◌, ◌≡◌, ℕ, Bool, List, Option, is_some, map, subst, sym, IsPermutation, IsSorted}
 use Rattle.std.specs.List.{filter_map}
 use Rattle.std.specs.Ordering.{ordering_then}
+use Rattle.std.proofs.lemmas.Result.{on_ok_weaker}
 use Rattle.edi_record.specs.declared.record.Kind.TheVariants.{Fea}
 use Rattle.edi_plan.specs.Places.{places_of}
 use Rattle.edi_matching.specs.contracts.entries.ContentKeyOrd.TheImpl.{ghosts as keys}
@@ -12,7 +13,7 @@ use Rattle.edi_matching.specs.inner.Additions.{AddsPairs}
 use Rattle.edi_matching.specs.inner.Entries.{content_entry}
 use Rattle.edi_matching.proofs.KeysAdded.{Alone, Shared}
 use Rattle.edi_matching.proofs.LoneKeys.{paired_by_key}
-use Rattle.edi_matching.proofs.PairsAdded.{adds_wider, on_ok}
+use Rattle.edi_matching.proofs.PairsAdded.{adds_wider}
 use Rattle.edi_matching.proofs.growing.add_objects_by_contents.Goals as goal
 
 pub returns : goal.returns
@@ -36,5 +37,5 @@ returns c =
     let order = subst (λ (xs : List (ContentKey × Member)). IsSorted (λ x y. ordering_then (keys.cmp x.0 y.0) (members.cmp x.1 y.1)) xs) (sym c.deref-2.ensures.value) c.in_ok-objects.ensures.sorted in
     let other_order = subst (λ (xs : List (ContentKey × Member)). IsSorted (λ x y. ordering_then (keys.cmp x.0 y.0) (members.cmp x.1 y.1)) xs) (sym c.deref-3.ensures.value) c.in_ok-others.ensures.sorted in
     paired_by_key c.add_lone_objects.result keys.cmp keys_eq.eq members.cmp p q (made (map (λ (target : Option ℕ). is_some target) to)) others here there to taken more marks listed listed_there order other_order
-    (on_ok c.add_lone_objects.result (AddsPairs (Alone keys_eq.eq p q here there) to taken more marks) (AddsPairs (Shared keys_eq.eq p q here there) to taken more marks)
+    (on_ok_weaker {P = AddsPairs (Alone keys_eq.eq p q here there) to taken more marks} {Q = AddsPairs (Shared keys_eq.eq p q here there) to taken more marks} c.add_lone_objects.result
     (adds_wider (Alone keys_eq.eq p q here there) (Shared keys_eq.eq p q here there) to taken more marks (λ i j w. (w.0.one, w.1))) c.add_lone_objects.ensures.pairs) c.add_lone_objects.ensures.none_left

@@ -1,5 +1,5 @@
 use Rattle.std.proofs.Common.{◌≡◌}
-use Rattle.edi_topo.specs.inner.Keyed.{keyed}
+use Rattle.edi_topo.specs.Ranking.{keyed}
 use Rattle.edi_matching.proofs.keys.keyed_members.Given as goal
 
 abbrev pub invariant-loop-member : goal.invariant-loop-member

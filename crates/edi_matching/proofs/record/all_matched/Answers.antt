@@ -1,5 +1,6 @@
 use Rattle.std.proofs.Common.{None, get_or}
-use Rattle.edi_matching.proofs.Checked.{some_is, matched_more}
+use Rattle.edi_line.proofs.Truths.{some_is}
+use Rattle.edi_matching.proofs.Checked.{matched_more}
 use Rattle.edi_matching.proofs.record.all_matched.Goals as goal
 
 pub loop-end-preserved : goal.loop-end-preserved

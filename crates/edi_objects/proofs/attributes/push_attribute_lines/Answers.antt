@@ -2,13 +2,13 @@ use Rattle.std.proofs.Common.{◌∙◌, ◌++◌, ◌<◌, ℕ, List, ap, lengt
 use Rattle.std.specs.List.{AllByRecursion}
 use Rattle.std.proofs.lemmas.Cmp.{nat_cmp_total}
 use Rattle.std.proofs.lemmas.List.Sorted.{IsPermutation-sym}
+use Rattle.edi_line.proofs.EachElement.{each_of_both, each_in_any_order}
 use Rattle.edi_plan.specs.declared.record.PlanAttribute.{PlanAttribute}
-use Rattle.edi_rank.proofs.ArrangedUnder.{all_along}
 use Rattle.edi_schema.specs.Sorted.{sort_by}
 use Rattle.edi_schema.proofs.SortedLists.{IsPermutation-sort_by}
 use Rattle.edi_objects.specs.Attributes.{class_line_at}
 use Rattle.edi_objects.proofs.Marked.{lines_more}
-use Rattle.edi_objects.proofs.AttributeLists.{all_appended, all_mapped, one_of_all, sorted_rise}
+use Rattle.edi_objects.proofs.AttributeLists.{all_mapped, one_of_all, sorted_rise}
 use Rattle.edi_objects.proofs.attributes.push_attribute_lines.Goals as goal
 
 pub push_line_at-requires-clause-here : goal.push_line_at-requires-clause-here
@@ -22,8 +22,8 @@ push_line_at-requires-clause-class c =
     let both = c.args.here.now ++ c.args.there.now in
     let class : PlanAttribute → ℕ = λ (a : PlanAttribute). a.atp in
     let few : ℕ → Type 0 = λ n. n < length c.args.namer.now.classes in
-    let all = all_mapped class few both (all_appended (λ (a : PlanAttribute). few a.atp) c.args.here.now c.args.there.now c.requires.here c.requires.there) in
-    let sorted = all_along few (map class both) (sort_by nat_cmp (map class both)) (IsPermutation-sym _ _ (IsPermutation-sort_by nat_cmp nat_cmp_total (map class both))) all in
+    let all = all_mapped class few both (each_of_both (λ (a : PlanAttribute). few a.atp) c.args.here.now c.args.there.now c.requires.here c.requires.there) in
+    let sorted = each_in_any_order few (map class both) (sort_by nat_cmp (map class both)) (IsPermutation-sym _ _ (IsPermutation-sort_by nat_cmp nat_cmp_total (map class both))) all in
     let is = c.deref-in-loop-at-2.ensures.value ∙ c.in_ok-classes.ensures in
     one_of_all few c.deref-in-loop-at-2.result.now (subst (λ (ns : List ℕ). AllByRecursion few ns) (sym is) sorted) c.loop-at.at 0
     (subst (λ n. c.loop-at.at < n) (c.len-at-end.ensures ∙ sym c.deref-in-loop-at-2.ensures.len) c.loop-at-test.true)

@@ -1,4 +1,4 @@
-use Rattle.std.proofs.Common.{◌≡◌, ◌∙◌, ℕ, List, ap, drop, leb, length, ltb, rules, subst, take, Bor}
+use Rattle.std.proofs.Common.{◌∙◌, ℕ, List, drop, leb, ltb, rules, subst}
 use Rattle.std.specs.List.Sorted.{IsNonDecreasingBy}
 use Rattle.std.proofs.lemmas.List.Sorted.{IsNonDecreasingBy-drop, IsPartitionPoint-from_clause, IsPartitionedBy-leb, IsPartitionedBy-ltb}
 use Rattle.edi_objects.proofs.Runs.{run_is}

@@ -1,6 +1,6 @@
 use Rattle.std.proofs.Common.{◌≡◌, get_or}
 use Rattle.std.specs.List.{slice_index}
-use Rattle.edi_topo.specs.inner.Keyed.{keyed}
+use Rattle.edi_topo.specs.Ranking.{keyed}
 use Rattle.edi_rank.specs.EndOrder.{no_end}
 use Rattle.edi_rank.specs.Keys.{numbered}
 use Rattle.edi_rank.proofs.end_orders.placed_ends.Given as goal

@@ -1,4 +1,5 @@
 use Rattle.std.proofs.Common.{◌≡◌, ◌≢◌, ◌≤◌, ◌∙◌, ℕ, true, List, sym, subst, ap, get_or}
+use Rattle.edi_line.proofs.EachElement.{each_weaker}
 use Rattle.edi_record.specs.declared.record.Kind.TheVariants.{Fea}
 use Rattle.edi_plan.specs.Places.{member_of}
 use Rattle.edi_plan.specs.Plans.{PlanData, IsPlace, record_at, others_of, is_object}
@@ -7,7 +8,6 @@ use Rattle.edi_plan.specs.declared.record.PlanEnd.{PlanEnd}
 use Rattle.edi_rank.specs.EndOrder.{OthersInOrder, positions_at}
 use Rattle.edi_rank.specs.Pieces.{ObjectSource, object_count}
 use Rattle.edi_rank.specs.inner.Pieces.{IsObjectRanking}
-use Rattle.edi_rank.proofs.KeysPreserved.{all_weaker}
 use Rattle.edi_rank.proofs.OthersSorted.{Renumbered, in_order_still, no_object, rest_hold}
 use Rattle.edi_rank.proofs.labels.number_objects.Goals as goal
 
@@ -17,7 +17,7 @@ LowerInOrder q numbers orders = (k : ℕ) → IsPlace q k → object_count q (ot
 
 still : (q : PlanData) → IsWholePlan q → (one other : List ℕ) (orders : List (List ℕ)) → ((k : ℕ) → IsPlace q k → (record_at q k).kind ≢ Fea → get_or other k 0 ≡ get_or one k 0) → LowerInOrder q one orders → LowerInOrder q other orders
 still q whole one other orders rest lower k h few = in_order_still q (λ j. get_or one j 0) (λ j. get_or other j 0) (positions_at orders k) (others_of (record_at q k)) few
-    (all_weaker (λ (e : PlanEnd). IsPlace q e.target) (Renumbered q (λ j. get_or one j 0) (λ j. get_or other j 0)) (λ e there object. sym (rest e.target there (no_object (record_at q e.target).kind object)))
+    (each_weaker (λ (e : PlanEnd). IsPlace q e.target) (Renumbered q (λ j. get_or one j 0) (λ j. get_or other j 0)) (λ e there object. sym (rest e.target there (no_object (record_at q e.target).kind object)))
     (others_of (record_at q k)) (rest_hold (λ e. IsPlace q e.target) (record_at q k).ends (whole.there k h)))
     (lower k h few)
 

@@ -1,9 +1,10 @@
 use Rattle.std.proofs.Common.{inr, refl}
+use Rattle.std.proofs.lemmas.Result.{on_ok_weaker}
 use Rattle.edi_files.specs.Folders.{IsSpare}
 use Rattle.edi_files.proofs.Steps.{goes_map}
 use Rattle.edi_answers.specs.Effects.{effects, inputs}
 use Rattle.edicad.specs.Made.{IsPut, OfMade}
-use Rattle.edi_answers.proofs.Made.{before_writing, on_ok_map}
+use Rattle.edi_answers.proofs.Made.{before_writing}
 use Rattle.edicad.proofs.Made.{of_made, put_fault, whole}
 use Rattle.edi_answers.proofs.Faults.{fault_unwritten, if_err_both}
 use Rattle.edicad.proofs.sheets.put.Goals as goal
@@ -22,7 +23,7 @@ returns-in-Err-clause-err g c =
 pub returns-in-Ok-clause-ok : goal.returns-in-Ok-clause-ok
 returns-in-Ok-clause-ok g c =
     let run = effects g.F.Folder g.F.Reader.ByteIn g.F.Sink.ByteOut g.F.NewFile.ByteOut c.args.folder.now c.put.new.folder in
-    on_ok_map c.put.result (run.Puts c.args.out.now c.deref.result.now) (IsPut run c.args.product c.args.kinds.now c.args.files.now c.args.out.now)
+    on_ok_weaker {P = run.Puts c.args.out.now c.deref.result.now} {Q = IsPut run c.args.product c.args.kinds.now c.args.files.now c.args.out.now} c.put.result
     (λ h. (
       c.if-is_input.ensures,
       of_made run.inputs c.args.product c.args.kinds.now c.args.files.now c.in-Ok.bytes.items _ c.deref.ensures.value c.in-Ok.ensures.ok

@@ -1,9 +1,9 @@
 use Rattle.std.proofs.Common.{◌≤◌, ℕ, List, length, take, IsTrue}
 use Rattle.std.specs.Io.KnownBytes.{Appends}
+use Rattle.std.proofs.lemmas.Result.{on_ok_weaker}
 use Rattle.edi_answers.specs.Effects.{inputs}
 use Rattle.edicad.specs.Made.{OfMade}
 use Rattle.edicad.proofs.Made.{of_made, put_fault}
-use Rattle.edi_answers.proofs.Made.{on_ok_map}
 use Rattle.edi_answers.proofs.Faults.{fault_unwritten, if_err_map}
 use Rattle.edicad.proofs.sheets.send.Goals as goal
 
@@ -20,7 +20,7 @@ pub returns-in-Ok-clause-ok : goal.returns-in-Ok-clause-ok
 returns-in-Ok-clause-ok g c =
     let folder = c.args.folder.now in
     let inputs = inputs g.F.Folder g.F.Reader.ByteIn folder in
-    on_ok_map c.write_all.result _ _
+    on_ok_weaker c.write_all.result
     (of_made inputs c.args.product c.args.kinds.now c.args.files.now c.in-Ok.bytes.items _ c.deref.ensures.value c.in-Ok.ensures.ok
     (Appends (g.O.ByteOut.contents c.args.out.now) (g.O.ByteOut.contents c.write_all.new.out)))
     c.write_all.ensures.ok

@@ -1,7 +1,8 @@
 use Rattle.std.proofs.Common.{◌∙◌, ◌++◌, ◌∷◌, ◌<◌, [], length, Global, List, None, Vec, ap, false, get_or, is_none, map, not, subst, sym, ℕ, Option}
+use Rattle.edi_line.proofs.Truths.{not-not}
 use Rattle.edi_diff.specs.inner.Codes.{code_at}
 use Rattle.edi_diff.specs.inner.Progress.{places_where}
-use Rattle.edi_diff.proofs.OpenPlaces.{not-not, place_more, place_same}
+use Rattle.edi_diff.proofs.OpenPlaces.{place_more, place_same}
 use Rattle.edi_diff.proofs.proposing.Open.codes.Goals.{then-is_none+in_ok-push, else-is_none}
 use Rattle.edi_diff.proofs.proposing.Open.codes.Goals as goal
 

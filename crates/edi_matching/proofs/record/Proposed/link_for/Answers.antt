@@ -1,8 +1,8 @@
 use Rattle.std.proofs.Common.{◌∙◌, Ordering, None, get_or, subst, sym, true≢false, IsSorted}
 use Rattle.std.specs.Ordering.{nat_cmp, ordering_then}
+use Rattle.edi_line.proofs.Truths.{some_is}
 use Rattle.edi_rank.specs.declared.keys.LinkKey.{LinkKey}
 use Rattle.edi_rank.proofs.KeyOrders.{link_order}
-use Rattle.edi_matching.proofs.Checked.{some_is}
 use Rattle.edi_matching.proofs.LinkKeys.{left_if_missed, none_missed, none_with}
 use Rattle.edi_matching.proofs.record.Proposed.link_for.Goals.{then-is_some-via-then-is_some, then-is_some-via-else-is_some+then-not-has_matched_ends}
 use Rattle.edi_matching.proofs.record.Proposed.link_for.Goals as goal

@@ -2,8 +2,9 @@ use Rattle.std.proofs.Common.{◌≡◌, ◌∙◌, ◌<◌, ◌≤◌, Some, sl
 use Rattle.edi_record.specs.Shapes.{stated_at}
 use Rattle.edi_record.specs.declared.name.Name.{Name}
 use Rattle.edi_record.proofs.StatedAt.{stated_there}
+use Rattle.edi_record.proofs.KindCodes.{kind_from_code}
 use Rattle.edi_plan.specs.inner.Names.{place_in, is_tabled}
-use Rattle.edi_plan.proofs.NameLemmas.{coded_kind, first_own, first_put, was_there, was_new, repeat_more, repeat_none, repeat_all, names_of, left_out, no_link, repeat_apart, first_apart}
+use Rattle.edi_plan.proofs.NameLemmas.{first_own, first_put, was_there, was_new, repeat_more, repeat_none, repeat_all, names_of, left_out, no_link, repeat_apart, first_apart}
 use Rattle.edi_plan.proofs.names.Names.among.Goals as goal
 use Rattle.edi_plan.proofs.names.Names.among.Goals.{then-first-place, else-first-place}
 
@@ -13,7 +14,7 @@ loop-place-preserved-then-not-is_tabled c =
     let n = c.loop-place.place in
     let r = stated_at records n in
     let rise = c.links_rise-links_rise.result in
-    let kind = coded_kind c.name_at-name.result.kind r.kind (ap (λ (m : Name). m.rty) c.name_at-name.ensures) in
+    let kind = kind_from_code c.name_at-name.result.kind r.kind (ap (λ (m : Name). m.rty) c.name_at-name.ensures) in
     let here : slice_get records n ≡ Some r = stated_there records n (subst (λ m. n < m) c.len-place-end.ensures.len c.loop-place-test.true) in
     let out = left_out rise r.kind (ap (is_tabled rise) (sym kind) ∙ (sym c.is_tabled.ensures ∙ c.if-not-is_tabled.true)) in
     record {
@@ -29,7 +30,7 @@ loop-place-preserved c =
     let table = c.loop-place.places.entries in
     let name = c.name_at-name.result in
     let rise = c.links_rise-links_rise.result in
-    let kind = coded_kind c.name_at-name.result.kind r.kind (ap (λ (m : Name). m.rty) c.name_at-name.ensures) in
+    let kind = kind_from_code c.name_at-name.result.kind r.kind (ap (λ (m : Name). m.rty) c.name_at-name.ensures) in
     let here : slice_get records n ≡ Some r = stated_there records n (subst (λ m. n < m) c.len-place-end.ensures.len c.loop-place-test.true) in
     let tabled = ap (is_tabled rise) (sym kind) ∙ (sym c.is_tabled.ensures ∙ c.if-not-is_tabled.false) in
     let own = first_own records n r here rise tabled name c.name_at-name.ensures table c.place_or.new.places.entries c.in_ok-first.ensures.put c.loop-place.invariant.first in

@@ -1,5 +1,6 @@
 use Rattle.std.proofs.Common.{◌≡◌, ◌∙◌, ℕ, [], arith, ap, sym, subst, length, get_or, true, unwrap_or, None, refl}
 use Rattle.std.proofs.lemmas.List.{length-map}
+use Rattle.edi_line.proofs.EachElement.{each_from_places}
 use Rattle.edi_record.specs.declared.record.Kind.TheVariants.{Pfe}
 use Rattle.edi_plan.specs.Joined.{IsJoined}
 use Rattle.edi_plan.specs.Places.{places_of, member_of}
@@ -11,7 +12,6 @@ use Rattle.edi_rank.specs.Layers.{forward_plan, no_side, number_by, ranked, face
 use Rattle.edi_rank.specs.Turned.{is_backward}
 use Rattle.edi_rank.proofs.Sided.{arc_is, least_equal}
 use Rattle.edi_rank.proofs.SameLaws.{map_alike}
-use Rattle.edi_rank.proofs.Unique.{all_places}
 use Rattle.edi_rank.proofs.face_layer.FaceLayer.with_turned_arcs.Goals as goal
 
 pub invariant_of-result : goal.invariant_of-result
@@ -34,5 +34,5 @@ returns c =
     ∙ (map_alike (IsPlace p) (λ k. unwrap_or (get_or c.deref-2.result.now k None) no_side) (λ k. unwrap_or (least_side (forward_plan p) (ranked p [] arcs []) k) no_side)
     (λ k h. ap (λ o. unwrap_or o no_side) (ap (λ xs. get_or xs k None) c.deref-2.ensures.value ∙ (c.in_ok-sides.ensures.least k h
     ∙ least_equal p whole joined (λ c. c) (λ c. c) (is_backward p) (is_backward p) (λ k h. refl) (λ k h. refl) (λ k. get_or c.deref.result.now k 0) (ranked p [] arcs []) agree k)))
-    (places_of Pfe p) (all_places (IsPlace p) (places_of Pfe p) 0 (λ m h. place_there Pfe p m h))
+    (places_of Pfe p) (each_from_places (IsPlace p) (places_of Pfe p) 0 (λ m h. place_there Pfe p m h))
     ∙ ap (λ q. face_keys q arcs) c.plan-plan.ensures.plan))

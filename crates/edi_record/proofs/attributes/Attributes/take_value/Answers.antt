@@ -1,7 +1,8 @@
 use Rattle.std.proofs.Common.{◌≡◌, ◌∙◌, ◌+◌, ◌-◌, ◌∷◌, ◌++◌, [], length, is_some, refl, sym, ap, arith}
 use Rattle.edi_line.specs.inner.ZoneLists.{all_but_last, done_of, open_of}
+use Rattle.edi_line.proofs.Truths.{none_is}
 use Rattle.edi_record.specs.inner.Stored.{kept_attributes, attribute_of, closed_with}
-use Rattle.edi_record.proofs.AttributesStored.{none_is, value_taken, stray_taken}
+use Rattle.edi_record.proofs.AttributesStored.{value_taken, stray_taken}
 use Rattle.edi_record.proofs.LastItems.{open_is, open_if_some, open_has, replaced}
 use Rattle.edi_record.proofs.attributes.Attributes.take_value.Goals as goal
 
