@@ -11,7 +11,7 @@ use crate::hashes::{load_schema, path_of_schema, tell_fault};
 use crate::sheets::open_input;
 use crate::{notes, report};
 use edi_census::all_broken;
-use edi_compare::{RunFault, read_input};
+use edi_compare::{Input, RunFault, read_input};
 use edi_files::Folder;
 use edi_line::{BrokenRule, ByteOut};
 use edi_schema::Schema;
@@ -164,8 +164,8 @@ fn all_told<F: Folder>(
     ensures err { IfErr result (λ e. SheetReadFault (inputs F.Folder F.Reader.ByteIn folder.now) path.now e
         × (rules.new.items ≡ rules.old.items)) }
 {
-    let mut sheet = open_input(folder, path, 3)?;
-    let bytes: Vec<u8> = read_input(alloc, &mut sheet, 3)?;
+    let mut sheet = open_input(folder, path, Input::First)?;
+    let bytes: Vec<u8> = read_input(alloc, &mut sheet, Input::First)?;
     match told_of(alloc, schema, form, &bytes, path, rules) {
         Ok(told) => Ok(told),
         Err(error) => Err(RunFault::Memory(error)),

@@ -7,7 +7,7 @@ ghost use Rattle.edi_answers.specs.Paths.{input_name};
 
 use crate::notes::note_of;
 use crate::paths::input_name;
-use edi_compare::{RunFault, read_input};
+use edi_compare::{Input, RunFault, read_input};
 use edi_line::ByteIn;
 use edi_shown::push_shown;
 use edi_words::GivenKinds;
@@ -71,7 +71,7 @@ pub fn read_classes<R: ByteIn>(
         (λ n. (n ≡ 1) × IsTooLong (R.contents reader.old)) (λ _. ⊥) (λ _. ⊥) (λ _. ⊥) (λ _. ⊥)) }
     ensures unnoted { IfErr result (λ _. note.new.items ≡ note.old.items) }
 {
-    let classes: Vec<u8> = read_input(alloc, reader, 1)?;
+    let classes: Vec<u8> = read_input(alloc, reader, Input::Scd)?;
     match note_at(alloc, kinds, path, &classes) {
         Ok(text) => {
             *note = text;

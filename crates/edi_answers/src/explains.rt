@@ -26,7 +26,7 @@ use crate::form::{AnswerForm, words_in_form};
 use crate::paths::input_name;
 use crate::report;
 use crate::sheets::open_input;
-use edi_compare::{Fault, RunFault, read_input};
+use edi_compare::{Fault, Input, RunFault, read_input};
 use edi_explain::{
     Found, NamedFile, describe_kinds, describe_sheet, describe_skipped, examine, explain_schema,
     explain_sheet, hints_of, list_rules, page_of, rule_of_word,
@@ -149,12 +149,12 @@ fn account_of<F: Folder>(
     ensures names { IfErr result (λ e. FaultHasNames e 4) }
     ensures unrefused { IfErr result (λ e. 2 < status_of_fault e) }
 {
-    let mut scd = open_input(folder, files.scd, 1)?;
-    let mut dic = open_input(folder, files.dic, 2)?;
-    let mut vec = open_input(folder, files.vec, 3)?;
-    let scd: Vec<u8> = read_input(alloc, &mut scd, 1)?;
-    let dic: Vec<u8> = read_input(alloc, &mut dic, 2)?;
-    let vec: Vec<u8> = read_input(alloc, &mut vec, 3)?;
+    let mut scd = open_input(folder, files.scd, Input::Scd)?;
+    let mut dic = open_input(folder, files.dic, Input::Dic)?;
+    let mut vec = open_input(folder, files.vec, Input::First)?;
+    let scd: Vec<u8> = read_input(alloc, &mut scd, Input::Scd)?;
+    let dic: Vec<u8> = read_input(alloc, &mut dic, Input::Dic)?;
+    let vec: Vec<u8> = read_input(alloc, &mut vec, Input::First)?;
     match account_of_bytes(alloc, kinds, files, form, &SheetBytes { scd, dic, vec }) {
         Ok(account) => Ok(account),
         Err(error) => Err(RunFault::Memory(error)),

@@ -20,7 +20,7 @@ use crate::notes::note_of;
 use crate::reason::add_reason;
 use crate::sheets::open_input;
 use crate::{notes, report};
-use edi_compare::{RunFault, canon_under, load_or_fault, read_input};
+use edi_compare::{Input, RunFault, canon_under, load_or_fault, read_input};
 use edi_files::Folder;
 use edi_json_answers::digests::{
     json_of_refused_sheet, json_of_schema_digest, json_of_sheet_digest,
@@ -103,10 +103,10 @@ pub fn load_schema<F: Folder>(
         GivesSchema (inputs F.Folder F.Reader.ByteIn folder.now) kinds.now files.now loaded.schema loaded.note.items) }
     ensures err { IfErr result (LoadFault (inputs F.Folder F.Reader.ByteIn folder.now) kinds.now files.now) }
 {
-    let mut scd = open_input(folder, files.scd, 1)?;
-    let mut dic = open_input(folder, files.dic, 2)?;
-    let scd: Vec<u8> = read_input(alloc, &mut scd, 1)?;
-    let dic: Vec<u8> = read_input(alloc, &mut dic, 2)?;
+    let mut scd = open_input(folder, files.scd, Input::Scd)?;
+    let mut dic = open_input(folder, files.dic, Input::Dic)?;
+    let scd: Vec<u8> = read_input(alloc, &mut scd, Input::Scd)?;
+    let dic: Vec<u8> = read_input(alloc, &mut dic, Input::Dic)?;
     match noted_schema(alloc, kinds, files, &scd, &dic) {
         Ok(noted) => Ok(noted),
         Err(fault) => Err(fault),
@@ -403,7 +403,7 @@ pub fn digest_of<F: Folder>(
 ) -> Result<[u8; 32], RunFault>
     ensures { IsAnswerOf (inputs F.Folder F.Reader.ByteIn folder.now) schema.now path.now result }
 {
-    let mut sheet = open_input(folder, path, 3)?;
+    let mut sheet = open_input(folder, path, Input::First)?;
     let canonical = canon_under(alloc, schema, &mut sheet)?;
     Ok(Sha256::digest(&canonical))
 }

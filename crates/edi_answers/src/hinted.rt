@@ -7,7 +7,7 @@ ghost use Rattle.edi_answers.specs.Hinted.{AreElsewhereLines, AreFaultHints, Are
 ghost use Rattle.edi_answers.specs.WholeInputs.{OfWholeInput};
 ghost use Rattle.edi_answers.specs.inner.Hinted.{IsOther};
 
-use crate::whole::read_whole;
+use crate::whole::read_path;
 use edi_compare::{Fault, RunFault};
 use edi_explain::explained::NamedFile;
 use edi_explain::{elsewhere_hint, has_named, hints_on_refused, stray_ends};
@@ -90,7 +90,7 @@ fn read_file<F: Folder>(
         (λ bytes. OfWholeInput (inputs F.Folder F.Reader.ByteIn folder.now) path.now
         (λ contents. bytes.items ≡ contents))) }
 {
-    match read_whole(alloc, folder, path) {
+    match read_path(alloc, folder, path) {
         Ok(bytes) => Ok(Some(bytes)),
         Err(fault) => {
             but_memory(&fault)?;

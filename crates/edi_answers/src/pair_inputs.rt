@@ -1,5 +1,6 @@
 //! The inputs of a run over two sheets: opened, read, and loaded under their schema.
 ghost use Rattle.std.specs.Prelude.{◌≡◌, ◌<◌, ℕ, IfErr, IfOk};
+ghost use Rattle.edi_compare.specs.Inputs.{number_of};
 ghost use Rattle.edi_compare.specs.Runs.{MatchFault, RefusesSchema};
 ghost use Rattle.edi_outcome.specs.Status.{status_of_fault};
 ghost use Rattle.edi_outcome.specs.Words.{FaultHasNames};
@@ -11,7 +12,7 @@ ghost use Rattle.edi_answers.specs.PairInputs.{ArePairBytes, ArePairInputs, AreP
 
 use crate::classes::read_classes;
 use crate::sheets::open_input;
-use edi_compare::{RunFault, load_or_fault, read_input};
+use edi_compare::{Input, RunFault, load_or_fault, read_input};
 use edi_files::Folder;
 use edi_line::{FileBytes, Gathering, Pieces};
 use edi_schema::Schema;
@@ -87,10 +88,10 @@ pub fn load_pair_and_file<F: Folder>(
         note.new.items result }
 {
     let readers = open_files(folder, files)?;
-    let mut file = open_input(folder, pairing, 5)?;
+    let mut file = open_input(folder, pairing, Input::Pairing)?;
     let pair = with_classes(alloc, folder, kinds, files, readers, note)?;
     let bytes = read_pair(alloc, folder, files, pair)?;
-    let file: Vec<u8> = read_at(alloc, folder, pairing, &mut file, 5)?;
+    let file: Vec<u8> = read_at(alloc, folder, pairing, &mut file, Input::Pairing)?;
     let loaded = load(alloc, kinds, bytes)?;
     Ok((loaded, file))
 }
@@ -107,10 +108,10 @@ fn open_files<F: Folder>(
     ensures names { IfErr result (λ e. FaultHasNames e 5) }
     ensures unread { IfErr result (λ e. 2 < status_of_fault e) }
 {
-    let scd = open_input(folder, files.scd, 1)?;
-    let dic = open_input(folder, files.dic, 2)?;
-    let first = open_input(folder, files.first, 3)?;
-    let second = open_input(folder, files.second, 4)?;
+    let scd = open_input(folder, files.scd, Input::Scd)?;
+    let dic = open_input(folder, files.dic, Input::Dic)?;
+    let first = open_input(folder, files.first, Input::First)?;
+    let second = open_input(folder, files.second, Input::Second)?;
     Ok(PairReaders {
         scd,
         dic,
@@ -173,9 +174,9 @@ fn read_pair<F: Folder>(
         mut first,
         mut second,
     } = pair;
-    let dic: Vec<u8> = read_at(alloc, folder, files.dic, &mut dic, 2)?;
-    let first: Pieces = read_at(alloc, folder, files.first, &mut first, 3)?;
-    let second: Pieces = read_at(alloc, folder, files.second, &mut second, 4)?;
+    let dic: Vec<u8> = read_at(alloc, folder, files.dic, &mut dic, Input::Dic)?;
+    let first: Pieces = read_at(alloc, folder, files.first, &mut first, Input::First)?;
+    let second: Pieces = read_at(alloc, folder, files.second, &mut second, Input::Second)?;
     Ok(PairBytes {
         classes,
         dic,
@@ -204,12 +205,12 @@ fn read_at<F: Folder, G: Gathering + Drop>(
     folder: &F,
     path: &str,
     reader: &mut F::Reader,
-    input: u8,
+    input: Input,
 ) -> Result<G, RunFault>
     requires { IsOpenedAt (inputs F.Folder F.Reader.ByteIn folder.now) F.Reader.ByteIn path.now reader.old }
     ensures read { IfOk result (λ bytes.
         IsReadAt (inputs F.Folder F.Reader.ByteIn folder.now) path.now (G.bytes bytes)) }
-    ensures err { IfErr result (IsUnreadAt (inputs F.Folder F.Reader.ByteIn folder.now) path.now input) }
+    ensures err { IfErr result (IsUnreadAt (inputs F.Folder F.Reader.ByteIn folder.now) path.now (number_of input)) }
 {
     read_input(alloc, reader, input)
 }

@@ -1,6 +1,7 @@
 //! The sheets that a command names: whether they are accepted, and whether two state the same plan.
 ghost use Rattle.std.specs.Prelude.{◌≡◌, ℕ, List, MatchOption, Option, OnOk, IfOk, IfErr, IfSome, IsTrue, ⊤};
 ghost use Rattle.std.specs.Bool.{MatchBool};
+ghost use Rattle.edi_compare.specs.Inputs.{number_of};
 ghost use Rattle.edi_compare.specs.Bundle.{OfParts};
 ghost use Rattle.edi_compare.specs.Runs.{BeforeWriting, IsSheetUnder, IsVerdictOf, WritesAll, WritesFirst};
 ghost use Rattle.edi_compare.specs.declared.pairing.Verdict.TheVariants.{Different};
@@ -14,7 +15,7 @@ ghost use Rattle.edi_answers.specs.SheetRuns.{FileFault, Gives, IsApart, IsDevic
 
 use crate::classes::{Kept, read_classes};
 use crate::pair_inputs::{load_pair, load_pair_and_file};
-use edi_compare::{RunFault, Verdict, compare_from, run_bundle, run_check};
+use edi_compare::{Input, RunFault, Verdict, compare_from, run_bundle, run_check};
 use edi_files::{Folder, output};
 use edi_line::ByteOut;
 use edi_pairing::{Compared, Verified, VerifyRunFault};
@@ -53,9 +54,9 @@ pub fn check<F: Folder>(
     ensures note { LeavesNote (inputs F.Folder F.Reader.ByteIn folder.now) kinds.now files.now.scd.now note.old.items
         note.new.items result }
 {
-    let mut scd = open_input(folder, files.scd, 1)?;
-    let mut dic = open_input(folder, files.dic, 2)?;
-    let mut vec = open_input(folder, files.vec, 3)?;
+    let mut scd = open_input(folder, files.scd, Input::Scd)?;
+    let mut dic = open_input(folder, files.dic, Input::Dic)?;
+    let mut vec = open_input(folder, files.vec, Input::First)?;
     let classes = read_classes(alloc, kinds, files.scd, &mut scd, note)?;
     let mut kept = Kept::new(&classes);
     run_check(alloc, kinds.kinds(), &mut kept, &mut dic, &mut vec)
@@ -160,20 +161,22 @@ fn compare_to_file<F: Folder>(
 }
 
 /// An input that is there to read.
-pub fn open_input<F: Folder>(folder: &F, path: &str, input: u8) -> Result<F::Reader, RunFault>
+pub fn open_input<F: Folder>(folder: &F, path: &str, input: Input) -> Result<F::Reader, RunFault>
     ensures ok { IfOk result (λ file.
         Gives (inputs F.Folder F.Reader.ByteIn folder.now) path.now (F.Reader.contents file)) }
     ensures device { IfOk result (λ file.
         IsDeviceOf (inputs F.Folder F.Reader.ByteIn folder.now) path.now (F.Reader.device file)) }
     ensures err { IfErr result (λ e. IsMissing (inputs F.Folder F.Reader.ByteIn folder.now) path.now
-        × (e ≡ RunFault.Read input)) }
+        × (e ≡ RunFault.Read (number_of input))) }
 {
     if is_standard(path) {
         return Ok(folder.input());
     }
     match folder.open(path) {
         Some(file) => Ok(file),
-        None => Err(RunFault::Read { input }),
+        None => Err(RunFault::Read {
+            input: input.number(),
+        }),
     }
 }
 

@@ -10,7 +10,7 @@ ghost use Rattle.edi_changes.specs.Lacking.{MatchLack, TellsLack};
 
 use edi_answers::hashes::{line_of_path, tell_fault};
 use edi_answers::report;
-use edi_answers::whole::read_whole;
+use edi_answers::whole::read_path;
 use edi_compare::RunFault;
 use edi_files::Folder;
 use edi_line::ByteOut;
@@ -40,7 +40,7 @@ pub fn read_at<F: Folder, T, R: FnOnce(&[u8]) -> Result<Option<T>, AllocError>>(
     ensures err { IfErr result (MatchLack (λ text. FnOnceReturnsAt R.FnOnce read text (Ok None))
         (inputs F.Folder F.Reader.ByteIn folder.now) path.now) }
 {
-    match read_whole(alloc, folder, path) {
+    match read_path(alloc, folder, path) {
         Ok(bytes) => match read(&bytes) {
             Ok(Some(found)) => Ok(found),
             Ok(None) => Err(Lack::Other),

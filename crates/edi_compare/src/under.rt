@@ -7,6 +7,7 @@ ghost use Rattle.edi_compare.specs.inner.Under.{UnderSchema};
 
 use crate::canonical::canon_from;
 use crate::fault::RunFault;
+use crate::input::Input;
 use crate::runs::read_input;
 use edi_line::{ByteIn, FileBytes, Pieces};
 use edi_schema::Schema;
@@ -23,7 +24,7 @@ pub fn canon_under<V: ByteIn>(
     ensures err { IfErr result (UnderFault schema.now (seen V.ByteIn vec.old vec.new)) }
     ensures after { IfErr result (λ e. AfterReading e (IsRead (seen V.ByteIn vec.old vec.new))) }
 {
-    let vec: Pieces = read_input(alloc, vec, 3)?;
+    let vec: Pieces = read_input(alloc, vec, Input::First)?;
     form_or_fault(alloc, schema, vec)
 }
 

@@ -13,7 +13,7 @@ use crate::lots::say_missing;
 use crate::opening::OpenDelivery;
 use crate::said::{say_lines, unnamed_lines};
 use edi_answers::hashes::{digest_of, load_schema, path_of_schema, tell_fault};
-use edi_answers::whole::read_whole;
+use edi_answers::whole::read_path;
 use edi_answers::{notes, report};
 use edi_compare::RunFault;
 use edi_delivery::{Extension, FileName, Lot, NamePart};
@@ -62,7 +62,7 @@ fn add_line<E: ByteOut>(lines: &mut Vec<ManifestLine>, line: ManifestLine, err: 
 fn digest_of_bytes<F: Folder>(alloc: Global, folder: &F, path: &str) -> Result<[u8; 32], RunFault>
     ensures { IsBytesAnswer (inputs F.Folder F.Reader.ByteIn folder.now) path.now result }
 {
-    let bytes = read_whole(alloc, folder, path)?;
+    let bytes = read_path(alloc, folder, path)?;
     Ok(Sha256::digest(&bytes))
 }
 

@@ -7,7 +7,7 @@ ghost use Rattle.edi_deliveries.specs.Deliveries.{LacksOneThf, thf_names};
 ghost use Rattle.edi_deliveries.specs.inner.Paths.{MatchChosen, MatchThf};
 
 use crate::found::has_extension;
-use edi_answers::whole::read_whole;
+use edi_answers::whole::read_path;
 use edi_compare::RunFault;
 use edi_delivery::{Delivery, DeliveryFault};
 use edi_files::Folder;
@@ -32,7 +32,7 @@ pub(crate) fn read_thf<F: Folder>(
         OfWholeInput (inputs F.Folder F.Reader.ByteIn folder.now) thf.now (λ b. IsDeliveryOf b lots)) }
     ensures err { IfErr result (MatchThf (inputs F.Folder F.Reader.ByteIn folder.now) thf.now) }
 {
-    match read_whole(alloc, folder, thf) {
+    match read_path(alloc, folder, thf) {
         Ok(bytes) => match Delivery::read(alloc, &bytes) {
             Ok(delivery) => Ok(delivery),
             Err(fault) => Err(NoDelivery::Refused(fault)),

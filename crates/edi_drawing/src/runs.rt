@@ -6,7 +6,7 @@ ghost use Rattle.edi_compare.specs.inner.Runs.{SheetFault};
 ghost use Rattle.edi_drawing.specs.UnderFiles.{IsPictureUnder};
 
 use crate::drawing::draw_from;
-use edi_compare::{Fault, RunFault, load_or_fault, read_input};
+use edi_compare::{Fault, Input, RunFault, load_or_fault, read_input};
 use edi_line::{ByteIn, FileBytes, Pieces};
 use edi_schema::Kinds;
 use std::alloc::Global;
@@ -30,9 +30,9 @@ pub fn run_draw<S: ByteIn, D: ByteIn, V: ByteIn>(
     ensures after { IfErr result (λ e. AfterReading e
         (AreRead (seen S.ByteIn scd.old scd.new) (seen D.ByteIn dic.old dic.new) (seen V.ByteIn vec.old vec.new))) }
 {
-    let scd: Vec<u8> = read_input(alloc, scd, 1)?;
-    let dic: Vec<u8> = read_input(alloc, dic, 2)?;
-    let vec: Pieces = read_input(alloc, vec, 3)?;
+    let scd: Vec<u8> = read_input(alloc, scd, Input::Scd)?;
+    let dic: Vec<u8> = read_input(alloc, dic, Input::Dic)?;
+    let vec: Pieces = read_input(alloc, vec, Input::First)?;
     draw_or_fault(alloc, kinds, name, &scd, &dic, FileBytes::InPieces(vec))
 }
 

@@ -15,7 +15,7 @@ ghost use Rattle.edicad.specs.Made.{IsInput, IsMadeOf, IsNoInput, IsPictureOfPai
 use edi_answers::classes::{Kept, read_classes};
 use edi_answers::pair_inputs::load_pair;
 use edi_answers::sheets::{is_pair_input, meets, open_input};
-use edi_compare::{RunFault, canon_of};
+use edi_compare::{Input, RunFault, canon_of};
 use edi_diff::{Difference, TextForm, diff_from};
 use edi_drawing::{DrawnDifference, FileNames, draw_difference_from, run_draw};
 use edi_files::{Folder, Product, output};
@@ -198,9 +198,9 @@ fn make<F: Folder>(
     ensures note { LeavesNote (inputs F.Folder F.Reader.ByteIn folder.now) kinds.now files.now.scd.now note.old.items
         note.new.items result }
 {
-    let mut scd = open_input(folder, files.scd, 1)?;
-    let mut dic = open_input(folder, files.dic, 2)?;
-    let mut vec = open_input(folder, files.vec, 3)?;
+    let mut scd = open_input(folder, files.scd, Input::Scd)?;
+    let mut dic = open_input(folder, files.dic, Input::Dic)?;
+    let mut vec = open_input(folder, files.vec, Input::First)?;
     let classes = read_classes(alloc, kinds, files.scd, &mut scd, note)?;
     let mut kept = Kept::new(&classes);
     product_of(
