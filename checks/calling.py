@@ -14,24 +14,19 @@ PAGE = os.path.join(ROOT, "docs/CALLING.md")
 
 HEAD = """# Calling the libraries
 
-Each function below is a whole use of the libraries, proved by the gate with its contract. Made by `checks/calling.py`
+Each function below is a complete example of a call to the libraries, proved by the gate with its contract. The page is made by `checks/calling.py`
 from `crates/uses/src`; the gate checks that it is current. The definitions that a contract names stand in the crates'
 specs/ ([DEFINITIONS.md](DEFINITIONS.md)); `crates/uses/specs` has those of these callers.
 
-A crate that calls the libraries names them in `crates.txt`, and begins with a line by which the prover does the plain steps itself. Of
-`uses` these are
+A crate that calls the libraries names them in `crates.txt` and starts with `#![tactic(auto)]`, which has the prover do the routine steps. For `uses`:
 
 ```
 {crates}
 ```
 
-```rust
-#![tactic(auto)]
-```
-
-A schema is loaded once and serves any number of sheets. What allocates takes the allocator first and may answer that
-there is no memory for it, which says nothing of the sheet. A refused call leaves what it borrowed as it was, readers, writers
-and feeds aside. Coordinates are whole millionths of the file's unit.
+A schema is loaded once and serves any number of sheets. A function that allocates takes the allocator first, and may answer that
+there is no memory, which says nothing about the sheet. A refused call leaves what it borrowed as it was, except readers, writers
+and feeds. Coordinates are whole millionths of the file's unit.
 """
 
 

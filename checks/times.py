@@ -1,7 +1,7 @@
 #!/usr/bin/env python3
-"""Makes the table of README.md's section "Times" from what a whole run of the gate printed (`bash .ci/run > LOG 2>&1`).
+"""Makes tables of what a whole run of the gate took, from what it printed (`bash .ci/run > LOG 2>&1`).
 
-    checks/times.py LOG CORES      writes the section; CORES is how many processors the run had
+    checks/times.py LOG CORES      prints them; CORES is how many processors the run had
 """
 import os
 import re
@@ -52,13 +52,13 @@ def cell(minutes):
     return f"{minutes:.1f}" if minutes else ""
 
 
-def section(stages, cores):
+def tables(stages, cores):
     rows = [f"| {named(it.command)} | {it.clock:.1f} | {it.processor:.1f} |" for it in stages]
     clock, processor = sum(it.clock for it in stages if "tests.py" not in it.command), sum(it.processor for it in stages)
     crates = [f"| `{it}` | {cell(total(stages, 'proof', it))} | {cell(total(stages, 'bugs', it))} |" for it in crates_in_order()]
-    head = f"The last whole run of the gate on a clean checkout, on {cores} cores, in minutes by the clock and of one processor:"
+    head = f"A whole run of the gate on {cores} cores, in minutes by the clock and of one processor:"
     return "\n".join([
-        "## Times", "", head, "",
+        head, "",
         "| stage | clock | processor |", "|---|---|---|", *rows, f"| **in all** | **{clock:.1f}** | **{processor:.1f}** |", "",
         "By crate, in minutes of one processor: its proof, and the bugs planted in it (`must-fail` and `edits/`).", "",
         "| crate | proof | bugs |", "|---|---|---|", *crates, ""])
@@ -69,12 +69,7 @@ def main(words):
         sys.exit(__doc__)
     with open(words[0], encoding="utf-8", errors="replace") as file:
         stages = stages_in(file.read())
-    with open(f"{TOP}/README.md", encoding="utf-8") as file:
-        text = file.read()
-    before, _, behind = text.partition("## Times\n")
-    _, heading, rest = behind.partition("\n## ")
-    with open(f"{TOP}/README.md", "w", encoding="utf-8") as file:
-        file.write(before + section(stages, words[1]) + heading + rest)
+    print(tables(stages, words[1]), end="")
 
 
 if __name__ == "__main__":
