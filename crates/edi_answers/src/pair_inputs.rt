@@ -1,6 +1,6 @@
 //! The inputs of a run over two sheets: opened, read, and loaded under their schema.
 ghost use Rattle.std.specs.Prelude.{◌≡◌, ◌<◌, ℕ, IfErr, IfOk};
-ghost use Rattle.edi_compare.specs.Inputs.{number_of};
+ghost use Rattle.edi_compare.specs.Inputs.{input_number};
 ghost use Rattle.edi_compare.specs.Runs.{MatchFault, RefusesSchema};
 ghost use Rattle.edi_outcome.specs.Status.{status_of_fault};
 ghost use Rattle.edi_outcome.specs.Words.{FaultHasNames};
@@ -210,7 +210,7 @@ fn read_at<F: Folder, G: Gathering + Drop>(
     requires { IsOpenedAt (inputs F.Folder F.Reader.ByteIn folder.now) F.Reader.ByteIn path.now reader.old }
     ensures read { IfOk result (λ bytes.
         IsReadAt (inputs F.Folder F.Reader.ByteIn folder.now) path.now (G.bytes bytes)) }
-    ensures err { IfErr result (IsUnreadAt (inputs F.Folder F.Reader.ByteIn folder.now) path.now (number_of input)) }
+    ensures err { IfErr result (IsUnreadAt (inputs F.Folder F.Reader.ByteIn folder.now) path.now (input_number input)) }
 {
     read_input(alloc, reader, input)
 }

@@ -1,7 +1,7 @@
 //! The sheets that a command names: whether they are accepted, and whether two state the same plan.
 ghost use Rattle.std.specs.Prelude.{◌≡◌, ℕ, List, MatchOption, Option, OnOk, IfOk, IfErr, IfSome, IsTrue, ⊤};
 ghost use Rattle.std.specs.Bool.{MatchBool};
-ghost use Rattle.edi_compare.specs.Inputs.{number_of};
+ghost use Rattle.edi_compare.specs.Inputs.{input_number};
 ghost use Rattle.edi_compare.specs.Bundle.{OfParts};
 ghost use Rattle.edi_compare.specs.Runs.{BeforeWriting, IsSheetUnder, IsVerdictOf, WritesAll, WritesFirst};
 ghost use Rattle.edi_compare.specs.declared.pairing.Verdict.TheVariants.{Different};
@@ -167,7 +167,7 @@ pub fn open_input<F: Folder>(folder: &F, path: &str, input: Input) -> Result<F::
     ensures device { IfOk result (λ file.
         IsDeviceOf (inputs F.Folder F.Reader.ByteIn folder.now) path.now (F.Reader.device file)) }
     ensures err { IfErr result (λ e. IsMissing (inputs F.Folder F.Reader.ByteIn folder.now) path.now
-        × (e ≡ RunFault.Read (number_of input))) }
+        × (e ≡ RunFault.Read (input_number input))) }
 {
     if is_standard(path) {
         return Ok(folder.input());

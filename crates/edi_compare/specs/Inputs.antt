@@ -4,10 +4,10 @@ use Rattle.edi_compare.specs.declared.input.Input.{Input}
 use Rattle.edi_compare.specs.declared.input.Input.TheVariants.{Only, Scd, Dic, First, Second, Pairing}
 
 -- counted from 1 in the order of the arguments
-abbrev pub number_of : Input → ℕ
-number_of Only = 1
-number_of Scd = 1
-number_of Dic = 2
-number_of First = 3
-number_of Second = 4
-number_of Pairing = 5
+abbrev pub input_number : Input → ℕ
+input_number Only = 1
+input_number Scd = 1
+input_number Dic = 2
+input_number First = 3
+input_number Second = 4
+input_number Pairing = 5

@@ -1,6 +1,6 @@
 //! Which input of a run is meant.
 ghost use Rattle.std.specs.Prelude.{◌≡◌};
-ghost use Rattle.edi_compare.specs.Inputs.{number_of};
+ghost use Rattle.edi_compare.specs.Inputs.{input_number};
 
 /// An input of a run. Faults name it by its number, counted from 1 in the order of the arguments.
 #[derive(Clone, Copy)]
@@ -22,7 +22,7 @@ pub enum Input {
 impl Input {
     /// Its number in faults (docs/USING.md, "Exit status").
     pub fn number(self) -> u8
-        ensures { result ≡ number_of self }
+        ensures { result ≡ input_number self }
     {
         match self {
             Input::Only | Input::Scd => 1,
