@@ -20,7 +20,7 @@ pub enum Input {
 }
 
 impl Input {
-    /// Its number in faults (docs/USING.md, "Exit status").
+    /// Its number in a `RunFault`.
     pub fn number(self) -> u8
         ensures { result ≡ input_number self }
     {
