@@ -8,7 +8,7 @@ use Rattle.std.proofs.lemmas.Cmp.{alike_right, upto}
 use Rattle.std.proofs.lemmas.List.{drop_more, get_or_default, get_or_read}
 use Rattle.std.proofs.lemmas.List.Sorted.{ranks_by, sorted_far}
 use Rattle.std.proofs.lemmas.List.Sums.{prefix_len-drop_all, prefix_len-drop_no, prefix_len-drop_yes}
-use Rattle.edi_line.proofs.Truths.{equal_is, less_is}
+use Rattle.edi_line.proofs.Truths.{equal_is, less_is, first_not_less}
 use Rattle.edi_plan.specs.Plans.{PlanData}
 use Rattle.edi_matching.specs.declared.ranked.Member.{Member}
 use Rattle.edi_matching.specs.inner.Additions.{AddsPairs, AreAlike, AreFree, AreInOrder, AreLone, HasKey, HaveLoneKey, IsFirstFrom, IsLone, LeavesNoLone, PairsByKey, PairsIfAlike, StartsRun}
