@@ -1,3 +1,4 @@
+use Rattle.edi_compare.specs.Inputs.{input_number}
 use Rattle.edi_answers.proofs.LoadedPairs.{read_whole, unread_result}
 use Rattle.edi_answers.proofs.pair_inputs.read_at.Goals as goal
 
@@ -8,4 +9,4 @@ returns-clause-read g c =
 
 pub returns-clause-err : goal.returns-clause-err
 returns-clause-err g c =
-    unread_result g.F.Folder g.F.Reader.ByteIn c.args.folder.now c.args.path.now c.args.reader.now c.read_input.new.reader c.requires c.args.input c.read_input.result c.read_input.ensures.err
+    unread_result g.F.Folder g.F.Reader.ByteIn c.args.folder.now c.args.path.now c.args.reader.now c.read_input.new.reader c.requires (input_number c.args.input) c.read_input.result c.read_input.ensures.err
