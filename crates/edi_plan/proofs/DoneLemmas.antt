@@ -29,20 +29,6 @@ use Rattle.edi_plan.specs.declared.targets.Target.{Target}
 use Rattle.edi_plan.proofs.OwnRules.{to_302, from_302, to_303, from_303, to_304, from_304, to_305, from_305, to_306, from_306}
 use Rattle.edi_plan.proofs.RuleLemmas.{names_join, join_names, link_has_role, role_is, any_two}
 
-abbrev of_rank : ℕ → Role
-of_rank zero = Initial
-of_rank (suc zero) = Final
-of_rank (suc (suc zero)) = Left
-of_rank (suc (suc (suc zero))) = Right
-of_rank (suc (suc (suc (suc n)))) = Plain
-
-rank_back : (a : Role) → a ≡ of_rank (role_rank a)
-rank_back Initial = refl
-rank_back Final = refl
-rank_back Left = refl
-rank_back Right = refl
-rank_back Plain = refl
-
 module _ (s : Classes) (list : List Record) (place : ℕ) (r : Record) (here : slice_get list place ≡ Some r) (own : List (Option Target)) (aimed : AllZip (IsTargetIfAny list) r.ends own)
     (table : List (ByRole (Option ℕ))) (before : IsDone s list place table) where
   abbrev role : Role

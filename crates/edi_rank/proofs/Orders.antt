@@ -1,5 +1,5 @@
 -- The orders of keys are total, and their ties are equal.
-use Rattle.std.proofs.Common.{◌≡◌, ℕ, zero, suc, refl, sym, ap, ◌∙◌, Ordering, Less}
+use Rattle.std.proofs.Common.{◌≡◌, sym, ap, ◌∙◌, Ordering, Less}
 use Rattle.std.specs.Cmp.{IsTotalOrder}
 use Rattle.std.specs.Cmp.Lexicographic.{options_total}
 use Rattle.std.specs.Option.{option_cmp}
@@ -8,8 +8,6 @@ use Rattle.std.proofs.lemmas.Cmp.{then_total, on_total, lists_total, nat_cmp_tot
 use Rattle.std.proofs.lemmas.Map.Lookups.{CmpEqualImpliesEq, exact_unsigned}
 use Rattle.edi_line.proofs.Truths.{first_tied, then_tied}
 use Rattle.edi_record.specs.Orders.{bytes_cmp, extra_cmp}
-use Rattle.edi_schema.specs.declared.role.Role.{Role}
-use Rattle.edi_schema.specs.declared.role.Role.TheVariants.{Initial, Final, Left, Right, Plain}
 use Rattle.edi_schema.specs.Roles.{role_rank}
 use Rattle.edi_schema.proofs.RoleTests.{one_role}
 use Rattle.edi_plan.specs.Plans.{kind_rank}
@@ -21,21 +19,6 @@ use Rattle.edi_rank.specs.declared.keys.FaceKey.{FaceKey}
 use Rattle.edi_plan.specs.Orders.{attribute_cmp}
 use Rattle.edi_rank.specs.Keys.{end_cmp, link_key_cmp, object_key_cmp, face_key_cmp}
 use Rattle.edi_plan.proofs.Orders.{exact_lists, exact_options, bytes_total, bytes_exact, attribute_total, attribute_exact, extra_total, extra_exact}
-
-pub role_by_rank : ℕ → Role
-role_by_rank zero = Initial
-role_by_rank (suc zero) = Final
-role_by_rank (suc (suc zero)) = Left
-role_by_rank (suc (suc (suc zero))) = Right
-role_by_rank (suc (suc (suc (suc n)))) = Plain
-
-role_ranked : (r : Role) → role_by_rank (role_rank r) ≡ r
-unfolding role_by_rank
-role_ranked Initial = refl
-role_ranked Final = refl
-role_ranked Left = refl
-role_ranked Right = refl
-role_ranked Plain = refl
 
 pub end_total : IsTotalOrder end_cmp
 end_total = then_total (on_total (λ (a : NumberedEnd). kind_rank a.kind) nat_cmp_total) (then_total (on_total (λ (a : NumberedEnd). a.number) nat_cmp_total) (on_total (λ (a : NumberedEnd). a.sns) (options_total bytes_total)))

@@ -63,6 +63,7 @@ fn is_text(value: &Value, text: &[u8]) -> bool
 
 /// The places of the links that name a record, in file order: of an object those that are its pieces, and those that
 /// join it with other objects. `Plan::ends` has what a link names, its origin first, and `Plan::kind` the type of that.
+/// Each call looks at all links: to ask for many records, go through the links once.
 pub fn links_naming(alloc: Global, plan: &Plan, place: u32) -> Result<Vec<u32>, AllocError>
     ensures { IfOk result (λ found. found.items
         ≡ filter (λ link. list_any (λ e. e.target == place) (record_at plan.now link).ends) (places_of Lnk plan.now)) }
@@ -114,6 +115,7 @@ fn is_named(name: &RecordName, kind: Kind, identifier: &[u8]) -> bool
 
 /// The number of the record of this type and identifier in the canonical file of its sheet, among those of its type from
 /// 1; none where no record has this name. There its identifier is the letter of its type and this number.
+/// Each call reads and numbers the sheet: to ask for many records, keep the names and the labels.
 pub fn canonical_number(
     alloc: Global,
     schema: &Schema,
