@@ -4,13 +4,13 @@ use Rattle.edi_record.specs.declared.fault.RecordFault.TheVariants.{Broken}
 use Rattle.edi_record.specs.Records.{SheetData}
 use Rattle.edi_plan.specs.Plans.{PlanData}
 use Rattle.edi_schema.specs.Classes.{Classes}
+use Rattle.edi_topo.specs.EarlierRecords.{IsEarlierByRule}
 use Rattle.edi_topo.specs.TopologyRules.{BreaksTopologyRule}
 use Rattle.edi_topo.specs.TopologyRules.BreaksTopologyRule.{starts_elsewhere, ends_elsewhere, repeats_node, equals_reverse, repeats_arc, bounds_nothing}
-use Rattle.edi_rank.specs.EqualObjects.{BreaksObjectRule}
+use Rattle.edi_rank.specs.EqualObjects.{BreaksObjectRule, IsEqualObject}
 use Rattle.edi_rank.specs.EqualObjects.BreaksObjectRule.{repeats_object}
 use Rattle.edi_compare.specs.PlanOfFile.{IsPlanOfFile, IsSheetOf}
 use Rattle.edi_plan.specs.EarlierLinks.{IsEarlierLinkIfAny, IsLeastIfAny}
-use Rattle.edi_explain.specs.Partners.{IsEqualNode, IsEqualObject, SharesPoints}
 use Rattle.edi_explain.specs.EndNodes.{IsEndNodeIfAny}
 use Rattle.edi_explain.specs.Refusals.{IsEarlierIfAny}
 
@@ -23,27 +23,18 @@ topology_between p rule at (repeats_arc e h) = (omega (arith, e), omega (arith, 
 topology_between p rule at (bounds_nothing e h) = (omega (arith, e), omega (arith, e))
 
 module _ (s : Classes) (b : List ℕ) (p : PlanData) (states : IsPlanOfFile s b p) (rule place : ℕ) where
-  pub node_earlier : (earlier : Option ℕ) → rule ≡ 403 → IsLeastIfAny (IsEqualNode p place) earlier → IsEarlierIfAny s b rule place earlier
-  node_earlier earlier is found = record {
-    names = λ e. absurd (omega (arith, e, is));
-    subsets = λ e. absurd (omega (arith, e, is));
-    sides = λ e. absurd (omega (arith, e, is));
-    nodes = λ e. (p, states, found);
-    arcs = λ e. absurd (omega (arith, e, is));
-    objects = λ e. absurd (omega (arith, e, is));
-    others = λ a d f g h i. absurd (g is);
-  }
-
-  pub arc_earlier : (earlier : Option ℕ) → rule ≡ 405 → IsLeastIfAny (SharesPoints p place) earlier → IsEarlierIfAny s b rule place earlier
-  arc_earlier earlier is found = record {
-    names = λ e. absurd (omega (arith, e, is));
-    subsets = λ e. absurd (omega (arith, e, is));
-    sides = λ e. absurd (omega (arith, e, is));
-    nodes = λ e. absurd (omega (arith, e, is));
-    arcs = λ e. (p, states, found);
-    objects = λ e. absurd (omega (arith, e, is));
-    others = λ a d f g h i. absurd (h is);
-  }
+  -- 403 and 405 speak of an earlier record, the other rules of topology of none
+  pub topology_earlier : (at : ℕ) (earlier : Option ℕ) → BreaksTopologyRule p rule at → IsEarlierByRule p rule place earlier → IsEarlierIfAny s b rule place earlier
+  topology_earlier at earlier h found =
+      let within = topology_between p rule at h in record {
+        names = λ e. absurd (omega (arith, e, within.0));
+        subsets = λ e. absurd (omega (arith, e, within.0));
+        sides = λ e. absurd (omega (arith, e, within.0));
+        nodes = λ e. (p, states, found.nodes e);
+        arcs = λ e. (p, states, found.arcs e);
+        objects = λ e. absurd (omega (arith, e, within.1));
+        others = λ a d f g h i. found.others g h;
+      }
 
   pub object_earlier : (earlier : Option ℕ) → rule ≡ 501 → IsLeastIfAny (IsEqualObject p place) earlier → IsEarlierIfAny s b rule place earlier
   object_earlier earlier is found = record {
@@ -55,19 +46,6 @@ module _ (s : Classes) (b : List ℕ) (p : PlanData) (states : IsPlanOfFile s b 
     objects = λ e. (p, states, found);
     others = λ a d f g h i. absurd (i is);
   }
-
-  -- the other rules of topology speak of no earlier record
-  pub no_earlier : (at : ℕ) → BreaksTopologyRule p rule at → rule ≢ 403 → rule ≢ 405 → IsEarlierIfAny s b rule place None
-  no_earlier at h node arc =
-      let within = topology_between p rule at h in record {
-        names = λ e. absurd (omega (arith, e, within.0));
-        subsets = λ e. absurd (omega (arith, e, within.0));
-        sides = λ e. absurd (omega (arith, e, within.0));
-        nodes = λ e. absurd (node e);
-        arcs = λ e. absurd (arc e);
-        objects = λ e. absurd (omega (arith, e, within.1));
-        others = λ a d f g h i. refl;
-      }
 
 pub object_rule : (p : PlanData) (rule at : ℕ) → BreaksObjectRule p rule at → rule ≡ 501
 object_rule p rule at (repeats_object e there less h) = e

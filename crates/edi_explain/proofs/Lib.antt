@@ -6,7 +6,6 @@ pub mod RowGroups
 pub mod HandedOn
 pub mod RowRecords
 pub mod RuleWords
-pub mod Equal
 pub mod Numbered
 pub mod ZoneFound
 pub mod ExtraZonesOf

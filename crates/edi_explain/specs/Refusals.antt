@@ -8,7 +8,9 @@ use Rattle.edi_plan.specs.Plans.{PlanData}
 use Rattle.edi_schema.specs.Classes.{Classes}
 use Rattle.edi_compare.specs.PlanOfFile.{IsPlanOfFile, IsSheetOf}
 use Rattle.edi_plan.specs.EarlierLinks.{IsLeastIfAny, SharesSide}
-use Rattle.edi_explain.specs.Partners.{HasEnd, IsEqualNode, IsEqualObject, SharesName, SharesPoints}
+use Rattle.edi_topo.specs.EarlierRecords.{IsEqualNode, SharesPoints}
+use Rattle.edi_rank.specs.EqualObjects.{IsEqualObject}
+use Rattle.edi_explain.specs.Partners.{HasEnd, SharesName}
 use Rattle.edi_explain.specs.RowPartners.{SharesRowName}
 use Rattle.edi_explain.specs.Sites.{IsSiteIfAny}
 use Rattle.edi_explain.specs.declared.refused.Refused.{Refused}

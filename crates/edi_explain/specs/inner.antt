@@ -5,7 +5,6 @@ pub mod Found
 pub mod KindClasses
 pub mod Lengths
 pub mod LostEnds
-pub mod Objects
 pub mod OpenAttributes
 pub mod RowPartners
 pub mod Sites

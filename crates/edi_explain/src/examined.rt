@@ -8,7 +8,10 @@ ghost use Rattle.edi_plan.specs.ReferenceRules.{BreaksReferenceRule};
 ghost use Rattle.edi_record.specs.RecordRefusal.{IsRecordRefusal};
 ghost use Rattle.edi_record.specs.declared.fault.RecordFault.TheVariants.{Broken};
 ghost use Rattle.edi_record.specs.Records.{SheetData};
+ghost use Rattle.edi_plan.specs.Plans.{PlanData};
+ghost use Rattle.edi_topo.specs.EarlierRecords.{IsEarlierRecordIfAny};
 ghost use Rattle.edi_topo.specs.TopologyRules.{BreaksTopologyRule};
+ghost use Rattle.edi_rank.specs.EqualObjects.{BreaksObjectRule, IsEqualObjectIfAny};
 ghost use Rattle.edi_compare.specs.PlanOfFile.{IsPlanOfFile, IsSheetOf};
 ghost use Rattle.edi_compare.specs.Refused.{IsRefusal};
 ghost use Rattle.edi_compare.specs.Rules.{IsAccepted, RecordsHold, ReferencesHold, TopologyHolds};
@@ -20,18 +23,16 @@ ghost use Rattle.edi_explain.specs.Refusals.{IsEarlierIfAny};
 ghost use Rattle.edi_explain.specs.inner.Found.{IsExamined, SpeaksOfNone};
 
 use crate::end_nodes::end_node;
-use crate::objects::equal_object;
-use crate::partner::{equal_node, same_arc};
 use crate::refused::earlier_in_zones;
 use crate::site::zones_of;
 use edi_compare::Fault;
 use edi_line::Zone;
 use edi_plan::{Plan, RefFault, Unplanned};
-use edi_rank::{RankFault, tell_objects_apart};
+use edi_rank::{RankFault, Unranked, tell_objects_apart_with_earlier};
 use edi_record::{Sheet, read_sheet};
 use edi_schema::Schema;
 use edi_topo::{Sound, TopoFault, Unsound};
-use std::alloc::{AllocError, Global};
+use std::alloc::Global;
 
 /// Why a sheet is refused.
 #[derive(Drop)]
@@ -57,25 +58,16 @@ fn found_alone<'a>(fault: Fault) -> Found<'a>
     }
 }
 
-/// The refusal at a record, with the node, and with the earlier record if it was found.
-fn found_at<'a>(
-    rule: u16,
-    at: u64,
-    earlier: Result<Option<u64>, AllocError>,
-    node: Option<u64>,
-) -> Found<'a>
+/// The refusal at a record, with the earlier record and the node that the rule speaks of.
+fn found_at<'a>(rule: u16, at: u64, earlier: Option<u64>, node: Option<u64>) -> Found<'a>
     ensures { (s : Classes) (b : List ℕ) → IsRefusal s b (AtRecord rule at)
-        → IfOk earlier (IsEarlierIfAny s b rule (at - 1)) → IsEndNodeIfAny s b rule (at - 1) node
-        → IsFound s b result }
+        → IsEarlierIfAny s b rule (at - 1) earlier → IsEndNodeIfAny s b rule (at - 1) node → IsFound s b result }
 {
-    match earlier {
-        Ok(earlier) => Found {
-            fault: Fault::Entry { rule, at },
-            earlier,
-            node,
-            zones: None,
-        },
-        Err(error) => found_alone(Fault::Memory(error)),
+    Found {
+        fault: Fault::Entry { rule, at },
+        earlier,
+        node,
+        zones: None,
     }
 }
 
@@ -112,7 +104,7 @@ fn found_early<'a>(
 {
     match rule {
         301 | 304 => found_in_zones(alloc, bytes, rule, at),
-        _ => found_at(rule, at, Ok(earlier), None),
+        _ => found_at(rule, at, earlier, None),
     }
 }
 
@@ -181,38 +173,28 @@ fn examine_plan<'a>(
 {
     match Sound::check_or_return(alloc, plan) {
         Ok(sound) => examine_objects(alloc, schema, bytes, sound),
-        Err(Unsound { plan, fault }) => Err(found_in_plan(alloc, schema, bytes, &plan, fault)),
+        Err(
+            Unsound {
+                plan,
+                fault,
+                earlier,
+            },
+        ) => Err(found_in_plan(schema, bytes, &plan, fault, earlier)),
     }
 }
 
-/// The earlier record that a rule of topology speaks of.
-fn earlier_in_plan(
-    alloc: Global,
-    plan: &Plan,
-    rule: u16,
-    place: u64,
-) -> Result<Option<u64>, AllocError>
-    ensures { IfOk result (λ earlier. (s : Classes) (b : List ℕ) (at : ℕ) → IsPlanOfFile s b plan.now
-        → BreaksTopologyRule plan.now rule at → IsEarlierIfAny s b rule place earlier) }
-{
-    match rule {
-        403 => equal_node(alloc, plan, place),
-        405 => Ok(same_arc(plan, place)),
-        _ => Ok(None),
-    }
-}
-
-/// The refusal of a sheet by a fault of its plan, with the earlier record or the node that the rule speaks of.
+/// The refusal of a sheet by a fault of its plan, of 403 and 405 with this earlier record.
 fn found_in_plan<'a>(
-    alloc: Global,
     schema: &Schema,
     bytes: &'a [u8],
     plan: &Plan,
     fault: TopoFault,
+    earlier: Option<u64>,
 ) -> Found<'a>
     requires held { ReferencesHold schema.now bytes.now }
     requires plan { IsPlanOfFile schema.now bytes.now plan.now }
     requires least { IsRecordRefusal (BreaksTopologyRule plan.now) fault }
+    requires earlier { IsEarlierRecordIfAny plan.now fault earlier }
     ensures { IsFound schema.now bytes.now result }
 {
     let _ = schema;
@@ -220,9 +202,8 @@ fn found_in_plan<'a>(
     match fault {
         TopoFault::Memory(error) => found_alone(Fault::Memory(error)),
         TopoFault::Broken { rule, at } => {
-            let place = at.saturating_sub(1);
-            let earlier = earlier_in_plan(alloc, plan, rule, place);
-            found_at(rule, at, earlier, end_node(plan, rule, place))
+            let node = end_node(plan, rule, at.saturating_sub(1));
+            found_at(rule, at, earlier, node)
         }
     }
 }
@@ -240,12 +221,21 @@ fn examine_objects<'a>(
 {
     let _ = schema;
     let _ = bytes;
-    match tell_objects_apart(alloc, &sound) {
+    match tell_objects_apart_with_earlier(alloc, &sound) {
         Ok(()) => Ok(sound),
-        Err(RankFault::Memory(error)) => Err(found_alone(Fault::Memory(error))),
-        Err(RankFault::Broken { rule, at }) => {
-            let earlier = equal_object(alloc, sound.plan(), at.saturating_sub(1));
-            Err(found_at(rule, at, earlier, None))
-        }
+        Err(unranked) => Err(found_unranked(unranked)),
+    }
+}
+
+/// The refusal of a sheet by a fault of its objects.
+fn found_unranked<'a>(unranked: Unranked) -> Found<'a>
+    ensures { (s : Classes) (b : List ℕ) (p : PlanData) → TopologyHolds s b → IsPlanOfFile s b p
+        → IsRecordRefusal (BreaksObjectRule p) unranked.fault
+        → IsEqualObjectIfAny p unranked.fault unranked.earlier → IsFound s b result }
+{
+    let Unranked { fault, earlier } = unranked;
+    match fault {
+        RankFault::Memory(error) => found_alone(Fault::Memory(error)),
+        RankFault::Broken { rule, at } => found_at(rule, at, earlier, None),
     }
 }

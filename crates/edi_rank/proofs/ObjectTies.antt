@@ -7,6 +7,7 @@ use Rattle.edi_line.specs.Refusal.{IsUnbroken, IsLeastBroken}
 use Rattle.edi_line.proofs.Truths.{first_tied, then_tied}
 use Rattle.edi_record.specs.Orders.{extra_cmp}
 use Rattle.edi_record.specs.declared.record.Kind.TheVariants.{Fea}
+use Rattle.edi_plan.specs.EarlierLinks.{IsLeast}
 use Rattle.edi_plan.specs.Orders.{attribute_cmp}
 use Rattle.edi_plan.specs.Places.{places_of}
 use Rattle.edi_plan.specs.Plans.{PlanData}
@@ -14,9 +15,10 @@ use Rattle.edi_plan.specs.Whole.{IsWholePlan}
 use Rattle.edi_plan.proofs.Orders.{exact_lists, attribute_exact, extra_exact}
 use Rattle.edi_plan.proofs.PlaceLemmas.{place_there, place_of_kind, places_rise, has_place}
 use Rattle.edi_topo.specs.Marks.{AreMarksOf, IsPlaceOfMark}
-use Rattle.edi_topo.specs.Ranking.{Ties}
+use Rattle.edi_topo.specs.Ranking.{HasItsKey, Ties}
+use Rattle.edi_topo.proofs.LeastPlaces.{least_place, lesser_member}
 use Rattle.edi_topo.proofs.MarksPlaced.{marks_at_places}
-use Rattle.edi_rank.specs.EqualObjects.{AreEqualObjects, BreaksObjectRule}
+use Rattle.edi_rank.specs.EqualObjects.{AreEqualObjects, BreaksObjectRule, IsEqualObject}
 use Rattle.edi_rank.specs.EqualObjects.BreaksObjectRule.{repeats_object}
 use Rattle.edi_rank.specs.Keys.{link_key_cmp, object_key, object_key_cmp}
 use Rattle.edi_rank.specs.Laws.{TellsApart}
@@ -48,19 +50,24 @@ module _ (p : PlanData) (whole : IsWholePlan p) (number : ℕ → ℕ) (apart : 
   equal_there m n h l tie = one_key_equal p number whole apart (object_place m) (object_place n) (place_there Fea p m h) (place_there Fea p n l) (place_of_kind Fea p m h) (place_of_kind Fea p n l)
       (object_key_exact (object_key_of m) (object_key_of n) tie)
 
+  -- an earlier object that is equal to a member's is that of an earlier member with its key
+  earlier_member : (j k : ℕ) → j < length (places_of Fea p) → IsEqualObject p (object_place j) k → (i : ℕ) × HasItsKey object_key_cmp object_key_of (length (places_of Fea p)) j i × (object_place i ≡ k)
+  earlier_member j k h d =
+      let a = has_place Fea p k d.1.first d.1.first_object in
+      let keys : object_key_of a.0 ≡ object_key_of j = ap (object_key p number) a.2 ∙ equal_one_key p number k (object_place j) d.1 in
+      (a.0, (lesser_member Fea p a.0 j a.1 (omega (arith, a.2, d.0)), subst (λ x. object_key_cmp (object_key_of a.0) x ≡ Equal) keys (tied_itself object_key_total (object_key_of a.0))), a.2)
+
   -- the member of an object that is equal to an earlier one
   tying_member : (m n : ℕ) → m < n → AreEqualObjects p m n → (i : ℕ) × Tied i × (object_place i ≡ n)
   tying_member m n less d =
-      let a = has_place Fea p m d.first d.first_object in
       let b = has_place Fea p n d.second d.second_object in
-      let before : a.0 < b.0 = earlier a.0 b.0 a.1 b.1 (omega (arith, a.2, b.2, less)) (cases_order a.0 b.0) in
-      let keys : object_key_of a.0 ≡ object_key_of b.0 = ap (object_key p number) a.2 ∙ (equal_one_key p number m n d ∙ ap (object_key p number) (sym b.2)) in
-      (b.0, ((b.1, (a.0, before, subst (λ k. object_key_cmp (object_key_of a.0) k ≡ Equal) keys (tied_itself object_key_total (object_key_of a.0))))), b.2)
-    where
-      earlier : (i j : ℕ) → i < length (places_of Fea p) → j < length (places_of Fea p) → object_place i < object_place j → (i ≡ j) ⊎ ((i < j) ⊎ (j < i)) → i < j
-      earlier i j h l less (inl e) = absurd (omega (arith, ap object_place e, less))
-      earlier i j h l less (inr (inl d)) = d
-      earlier i j h l less (inr (inr d)) = absurd (omega (arith, less, places_rise Fea p j i d h))
+      let a = earlier_member b.0 m b.1 (subst (λ k. IsEqualObject p k m) (sym b.2) (less, d)) in
+      (b.0, (b.1, (a.0, a.1.0, a.1.1)), b.2)
+
+  -- the first member with the key of one has the first object that is equal to its object
+  pub first_equal_object : (m e : ℕ) → m < length (places_of Fea p) → IsLeast (HasItsKey object_key_cmp object_key_of (length (places_of Fea p)) m) e → IsLeast (IsEqualObject p (object_place m)) (object_place e)
+  first_equal_object m e h first = least_place Fea p (HasItsKey object_key_cmp object_key_of (length (places_of Fea p)) m) (IsEqualObject p (object_place m)) (λ i k. omega (arith, k.0, h))
+      (λ i k. (places_rise Fea p i m k.0 h, equal_there i m (omega (arith, k.0, h)) h k.1)) (λ k d. earlier_member m k h d) e first
 
   pub none_equal : ((m : ℕ) → ¬ (Tied m)) → IsUnbroken (BreaksObjectRule p)
   none_equal none rule at (repeats_object {m} {n} e f less d) = let t = tying_member m n less d in none t.0 t.1

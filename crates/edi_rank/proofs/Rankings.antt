@@ -3,8 +3,9 @@ use Rattle.std.proofs.Common.{◌≡◌, ℕ, ◌<◌, ◌⊎◌, inl, inr, Bool
 use Rattle.std.specs.Cmp.{IsTotalOrder}
 use Rattle.std.proofs.lemmas.Bool.{cases_order}
 use Rattle.edi_topo.specs.Marks.{AreMarksOf}
-use Rattle.edi_topo.specs.Ranking.{IsRanking, IsTie, Ties, rank}
+use Rattle.edi_topo.specs.Ranking.{IsFirstTie, IsRanking, IsTie, Ties, rank}
 use Rattle.edi_topo.specs.declared.fault.TieFault.TheVariants.{Tie}
+use Rattle.edi_topo.specs.declared.fault.Tied.{Tied}
 use Rattle.edi_topo.proofs.RankOrder.{rank_within, rank_rises, equal_ranks}
 use Rattle.edi_rank.specs.Labelling.{NumbersEach}
 
@@ -34,6 +35,9 @@ ranking_by cmp other same key size numbers ranking = subst (λ c. IsRanking c ke
 
 pub tie_by : {K : Type 0} (cmp other : K → K → Ordering) → ((a b : K) → cmp a b ≡ other a b) → (key : ℕ → K) (size m : ℕ) → IsTie cmp key size (Tie m) → IsTie other key size (Tie m)
 tie_by cmp other same key size m tie = subst (λ c. IsTie c key size (Tie m)) (λ i a b. same a b i) tie
+
+pub first_tie_by : {K : Type 0} (cmp other : K → K → Ordering) → ((a b : K) → cmp a b ≡ other a b) → (key : ℕ → K) (size : ℕ) (tied : Tied) → IsFirstTie cmp key size tied → IsFirstTie other key size tied
+first_tie_by cmp other same key size tied tie = subst (λ c. IsFirstTie c key size tied) (λ i a b. same a b i) tie
 
 pub marks_by : {K : Type 0} (cmp other : K → K → Ordering) → ((a b : K) → cmp a b ≡ other a b) → (key : ℕ → K) (size : ℕ) (marks : List Bool) → AreMarksOf size (Ties cmp key size) marks → AreMarksOf size (Ties other key size) marks
 marks_by cmp other same key size marks are = subst (λ c. AreMarksOf size (Ties c key size) marks) (λ i a b. same a b i) are

@@ -1,8 +1,11 @@
 -- Objects that nothing but their identifiers tells apart.
-use Rattle.std.specs.Prelude.{◌≡◌, ℕ, suc, ◌<◌, ◌==◌, if◌then◌else◌, List, map, Option, Some, None, option_map, IsPermutation}
+use Rattle.std.specs.Prelude.{◌≡◌, ℕ, suc, ◌-◌, ◌<◌, ◌==◌, if◌then◌else◌, List, map, Option, Some, None, option_map, IsPermutation}
 use Rattle.std.specs.List.{AllZip, filter_map}
+use Rattle.edi_record.specs.declared.fault.RecordFault.{RecordFault}
+use Rattle.edi_record.specs.declared.fault.RecordFault.TheVariants.{Memory, Broken}
 use Rattle.edi_record.specs.declared.record.Extra.{Extra}
 use Rattle.edi_record.specs.declared.record.Kind.TheVariants.{Fea}
+use Rattle.edi_plan.specs.EarlierLinks.{IsLeastIfAny}
 use Rattle.edi_plan.specs.Plans.{PlanData, IsPlace, record_at, origin_of, others_of}
 use Rattle.edi_plan.specs.declared.record.PlanRecord.{PlanRecord}
 use Rattle.edi_plan.specs.declared.record.PlanAttribute.{PlanAttribute}
@@ -67,3 +70,12 @@ pub record AreEqualObjects (p : PlanData) (m n : ℕ) : Type 0 where
 -- 501: an object equal to an earlier one, at a place from 1
 pub data BreaksObjectRule (p : PlanData) (rule at : ℕ) : Type 0 where
   repeats_object : {m n : ℕ} → rule ≡ 501 → at ≡ suc n → m < n → AreEqualObjects p m n → BreaksObjectRule p rule at
+
+-- an earlier object equal to the one at this place, from 0
+abbrev pub IsEqualObject : PlanData → ℕ → ℕ → Type 0
+IsEqualObject p place m = (m < place) × AreEqualObjects p m place
+
+-- the first object equal to that of a fault by 501; want of memory speaks of none
+abbrev pub IsEqualObjectIfAny : PlanData → RecordFault → Option ℕ → Type 0
+IsEqualObjectIfAny p (Memory e) earlier = earlier ≡ None
+IsEqualObjectIfAny p (Broken rule at) earlier = IsLeastIfAny (IsEqualObject p (at - 1)) earlier

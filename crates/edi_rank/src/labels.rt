@@ -2,7 +2,7 @@ ghost use Rattle.std.specs.Prelude.{◌≡◌, ◌≢◌, ◌<◌, ◌≤◌, �
 ghost use Rattle.edi_plan.specs.Agreeing.{Agrees};
 ghost use Rattle.edi_plan.specs.Places.{places_of, member_of};
 ghost use Rattle.edi_plan.specs.Plans.{IsPlace, record_at, others_of, is_object};
-ghost use Rattle.edi_rank.specs.EqualObjects.{BreaksObjectRule};
+ghost use Rattle.edi_rank.specs.EqualObjects.{BreaksObjectRule, IsEqualObjectIfAny};
 ghost use Rattle.edi_rank.specs.Laws.{TellsApart};
 ghost use Rattle.edi_rank.specs.EndOrder.{OthersInOrder};
 ghost use Rattle.edi_rank.specs.inner.Pieces.{IsObjectRanking};
@@ -17,7 +17,7 @@ ghost use Rattle.edi_line.specs.Refusal.{IsUnbroken};
 
 use crate::end_orders::{all_orders, lower_orders};
 use crate::face_layer::FaceLayer;
-use crate::fault::RankFault;
+use crate::fault::{RankFault, Unranked};
 use crate::forward::turned_arcs;
 use crate::link_layer::LinkLayer;
 use crate::numbering::{lower_numbers, number_kind, places_by_number};
@@ -27,7 +27,7 @@ use edi_line::Sequence;
 use edi_plan::Plan;
 use edi_record::Kind;
 use edi_schema::Schema;
-use edi_topo::{Ranks, Sound, TieFault, ranks};
+use edi_topo::{Ranks, Sound, TieFault, ranks, ranks_or_tie};
 use std::alloc::{AllocError, Global};
 use std::marker::Model;
 
@@ -200,8 +200,20 @@ pub fn tell_objects_apart(alloc: Global, sound: &Sound) -> Result<(), RankFault>
     ensures distinct { OnOk result (IsUnbroken (BreaksObjectRule sound.now)) }
     ensures least { IfErr result (IsRecordRefusal (BreaksObjectRule sound.now)) }
 {
+    match tell_objects_apart_with_earlier(alloc, sound) {
+        Ok(()) => Ok(()),
+        Err(Unranked { fault, earlier: _ }) => Err(fault),
+    }
+}
+
+/// What `tell_objects_apart` gives, and beside 501 the first object that the refused one is equal to.
+pub fn tell_objects_apart_with_earlier(alloc: Global, sound: &Sound) -> Result<(), Unranked>
+    ensures distinct { OnOk result (IsUnbroken (BreaksObjectRule sound.now)) }
+    ensures least { IfErr result (λ u. IsRecordRefusal (BreaksObjectRule sound.now) u.fault) }
+    ensures earlier { IfErr result (λ u. IsEqualObjectIfAny sound.now u.fault u.earlier) }
+{
     let layer = numbered_objects(alloc, sound)?;
-    object_ranks(alloc, sound, &layer)?;
+    object_ranks_with_earlier(alloc, sound, &layer)?;
     Ok(())
 }
 
@@ -250,13 +262,34 @@ fn object_ranks(alloc: Global, sound: &Sound, layer: &ObjectLayer<'_>) -> Result
     ensures distinct { OnOk result (IsUnbroken (BreaksObjectRule sound.now)) }
     ensures least { IfErr result (IsRecordRefusal (BreaksObjectRule sound.now)) }
 {
-    let _plan = sound.plan();
-    match ranks(alloc, layer) {
+    match object_ranks_with_earlier(alloc, sound, layer) {
         Ok(ranks) => Ok(ranks),
-        Err(TieFault::Memory(error)) => Err(RankFault::Memory(error)),
-        Err(TieFault::Tie(member)) => Err(RankFault::Broken {
-            rule: 501,
-            at: u64::from(layer.place(member)) + 1,
+        Err(Unranked { fault, earlier: _ }) => Err(fault),
+    }
+}
+
+/// The same, and beside 501 the first object that the refused one is equal to.
+fn object_ranks_with_earlier(
+    alloc: Global,
+    sound: &Sound,
+    layer: &ObjectLayer<'_>,
+) -> Result<Ranks, Unranked>
+    requires plan { layer.now.plan ≡ sound.now }
+    requires apart { TellsApart sound.now (slice_index layer.now.numbers) }
+    ensures ranks { IfOk result (IsObjectRanking layer.now) }
+    ensures distinct { OnOk result (IsUnbroken (BreaksObjectRule sound.now)) }
+    ensures least { IfErr result (λ u. IsRecordRefusal (BreaksObjectRule sound.now) u.fault) }
+    ensures earlier { IfErr result (λ u. IsEqualObjectIfAny sound.now u.fault u.earlier) }
+{
+    let _plan = sound.plan();
+    match ranks_or_tie(alloc, layer)? {
+        Ok(ranks) => Ok(ranks),
+        Err(tied) => Err(Unranked {
+            fault: RankFault::Broken {
+                rule: 501,
+                at: u64::from(layer.place(tied.member)) + 1,
+            },
+            earlier: Some(u64::from(layer.place(tied.earlier))),
         }),
     }
 }

@@ -88,8 +88,8 @@ impl<'a> ObjectLayer<'a> {
         ObjectLayer::of_plan(alloc, sound.plan(), nodes, arcs, faces)
     }
 
-    /// The objects of a plan, be it sound or not, where its nodes, arcs and faces have these numbers.
-    pub fn of_plan(
+    /// The objects of a plan, where its nodes, arcs and faces have these numbers.
+    fn of_plan(
         alloc: Global,
         plan: &'a Plan,
         nodes: &Ranks,

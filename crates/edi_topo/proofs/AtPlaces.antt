@@ -1,17 +1,20 @@
 -- What breaks a rule of topology at one record.
-use Rattle.std.proofs.Common.{◌≡◌, ℕ, suc, ◌+◌, ◌<◌, ◌≤◌, ◌⊎◌, inl, inr, Option, Some, None, MatchOption, refl, sym, ap, ◌∙◌, subst, arith}
-use Rattle.std.specs.Result.{result_err}
+use Rattle.std.proofs.Common.{◌≡◌, ℕ, suc, ◌+◌, ◌<◌, ◌≤◌, ◌⊎◌, inl, inr, ◌-◌, Option, Some, None, MatchOption, Result, Ok, Err, IfErr, ⊎_elim, refl, sym, ap, ◌∙◌, subst, arith}
 use Rattle.std.proofs.lemmas.Bool.{cases_order}
 use Rattle.edi_line.specs.Refusal.{IsUnbroken, IsLeastBroken}
 use Rattle.edi_record.specs.declared.record.Kind.{Kind}
 use Rattle.edi_record.specs.declared.record.Kind.TheVariants.{Pno, Par, Pfe}
 use Rattle.edi_schema.specs.declared.role.Role.TheVariants.{Left, Right}
+use Rattle.edi_plan.specs.EarlierLinks.{IsLeast, IsLeastIfAny}
 use Rattle.edi_plan.specs.Plans.{PlanData, IsPlace, record_at, kind_rank}
 use Rattle.edi_plan.specs.Sides.{Side}
+use Rattle.edi_topo.specs.EarlierRecords.{IsEarlierByRule, IsEqualNode, SharesPoints}
 use Rattle.edi_topo.specs.inner.Arcs.{RepeatsAnEarlierArc}
 use Rattle.edi_topo.specs.inner.AtRecord.{IsUnbrokenAt, IsLeastAt, IsUpTo, AreNotBefore, AreRecordFindings}
 use Rattle.edi_topo.specs.inner.Nodes.{RepeatsAnEarlier}
+use Rattle.edi_topo.specs.inner.Repeats.{repeat_place, repeated_place}
 use Rattle.edi_topo.specs.declared.at_record.RecordFindings.{RecordFindings}
+use Rattle.edi_topo.specs.declared.repeat.Repeat.{Repeat}
 use Rattle.edi_topo.specs.TopologyRules.{BreaksTopologyRule, StartsElsewhere, EndsElsewhere}
 use Rattle.edi_topo.specs.TopologyRules.BreaksTopologyRule.{starts_elsewhere, ends_elsewhere, repeats_node, equals_reverse, repeats_arc, bounds_nothing}
 
@@ -26,6 +29,14 @@ at_first R (Some n) place first up h =
 
 pub has_it : (R : ℕ → Type 0) (found : Option ℕ) (place : ℕ) → found ≡ Some place → MatchOption found ((n : ℕ) → ¬ (R n)) (λ n. R n × ((k : ℕ) → R k → n ≤ k)) → R place
 has_it R found place e first = (subst (λ o. MatchOption o ((n : ℕ) → ¬ (R n)) (λ n. R n × ((k : ℕ) → R k → n ≤ k))) e first).0
+
+-- what the first record with a property repeats, where that is at this place
+repeated_here : {X : Type 0} (R : ℕ → Type 0) (Is : ℕ → ℕ → Type 0) (found : Result X Repeat) (place : ℕ) → MatchOption (repeat_place found) ((n : ℕ) → ¬ (R n)) (λ n. R n × ((k : ℕ) → R k → n ≤ k))
+    → IfErr found (λ r. IsLeast (Is r.place) r.earlier) → R place → ((k : ℕ) → R k → place ≤ k) → IsLeastIfAny (Is place) (repeated_place found)
+repeated_here R Is (Ok x) place none earlier h least = absurd (none place h)
+repeated_here R Is (Err r) place first earlier h least =
+    let same : r.place ≡ place = omega (arith, first.1 place h, least r.place first.0) in
+    subst (λ n. IsLeast (Is n) r.earlier) same earlier
 
 module _ (p : PlanData) where
   abbrev kind_at : ℕ → Kind
@@ -111,11 +122,55 @@ module _ (p : PlanData) where
   -- the repeats are past a record that breaks no rule
   pub ahead_more : (found : RecordFindings) (place : ℕ) → AreRecordFindings p found → AreNotBefore found place → IsUnbrokenAt p place → AreNotBefore found (place + 1)
   ahead_more found place are ahead none = record {
-    node = λ k e. past k (ahead.node k e) (λ same. none 403 (node_breaks place (has_it (RepeatsAnEarlier p) (result_err found.nodes) place (e ∙ ap Some same) are.node_repeat))) (cases_order place k);
-    arc = λ k e. past k (ahead.arc k e) (λ same. none 405 (arc_breaks place (has_it (RepeatsAnEarlierArc p) (result_err found.arcs) place (e ∙ ap Some same) are.arc_repeat))) (cases_order place k);
+    node = λ k e. past k (ahead.node k e) (λ same. none 403 (node_breaks place (has_it (RepeatsAnEarlier p) (repeat_place found.nodes) place (e ∙ ap Some same) are.node_repeat))) (cases_order place k);
+    arc = λ k e. past k (ahead.arc k e) (λ same. none 405 (arc_breaks place (has_it (RepeatsAnEarlierArc p) (repeat_place found.arcs) place (e ∙ ap Some same) are.arc_repeat))) (cases_order place k);
   }
     where
       past : (k : ℕ) → place ≤ k → (k ≡ place → ⊥) → (place ≡ k) ⊎ ((place < k) ⊎ (k < place)) → place + 1 ≤ k
       past k h apart (inl same) = absurd (apart (sym same))
       past k h apart (inr (inl less)) = omega (arith, less)
       past k h apart (inr (inr more)) = omega (arith, h, more)
+
+  -- the earlier record of what is broken first
+
+  module _ (rule at : ℕ) (first : IsLeastBroken (BreaksTopologyRule p) rule at) where
+    repeats_before : rule ≡ 403 → RepeatsAnEarlier p (at - 1)
+    repeats_before is = go first.is
+      where
+        go : BreaksTopologyRule p rule at → RepeatsAnEarlier p (at - 1)
+        go (starts_elsewhere e h) = absurd (omega (arith, is, e))
+        go (ends_elsewhere e h) = absurd (omega (arith, is, e))
+        go (repeats_node e h) = let here : h.1 ≡ at - 1 = omega (arith, h.2) in subst (RepeatsAnEarlier p) here (h.0, h.3, h.4)
+        go (equals_reverse e h) = absurd (omega (arith, is, e))
+        go (repeats_arc e h) = absurd (omega (arith, is, e))
+        go (bounds_nothing e h) = absurd (omega (arith, is, e))
+
+    repeats_arc_before : rule ≡ 405 → RepeatsAnEarlierArc p (at - 1)
+    repeats_arc_before is = go first.is
+      where
+        go : BreaksTopologyRule p rule at → RepeatsAnEarlierArc p (at - 1)
+        go (starts_elsewhere e h) = absurd (omega (arith, is, e))
+        go (ends_elsewhere e h) = absurd (omega (arith, is, e))
+        go (repeats_node e h) = absurd (omega (arith, is, e))
+        go (equals_reverse e h) = absurd (omega (arith, is, e))
+        go (repeats_arc e h) = let here : h.1 ≡ at - 1 = omega (arith, h.4) in subst (RepeatsAnEarlierArc p) here (h.0, h.2, h.3, h.5, h.6, h.7, h.8)
+        go (bounds_nothing e h) = absurd (omega (arith, is, e))
+
+    -- what breaks a rule isn't before
+    not_before : (other k : ℕ) → BreaksTopologyRule p other (suc k) → at - 1 ≤ k
+    not_before other k h = ⊎_elim (λ less. omega (arith, less)) (λ same. omega (arith, same.0)) (first.least other (suc k) h)
+
+    module _ (found : RecordFindings) (are : AreRecordFindings p found) where
+      pub earlier_node : rule ≡ 403 → IsEarlierByRule p rule (at - 1) (repeated_place found.nodes)
+      earlier_node is = record {
+        nodes = λ e. repeated_here (RepeatsAnEarlier p) (IsEqualNode p) found.nodes (at - 1) are.node_repeat are.node_earlier (repeats_before is) (λ k d. not_before 403 k (node_breaks k d));
+        arcs = λ e. absurd (omega (arith, is, e));
+        others = λ node arc. absurd (node is);
+      }
+
+      pub earlier_arc : rule ≡ 405 → IsEarlierByRule p rule (at - 1) (repeated_place found.arcs)
+      earlier_arc is = record {
+        nodes = λ e. absurd (omega (arith, is, e));
+        arcs = λ e. repeated_here (RepeatsAnEarlierArc p) (SharesPoints p) found.arcs (at - 1) are.arc_repeat are.arc_earlier (repeats_arc_before is) (λ k d. not_before 405 k (arc_breaks k d));
+        others = λ node arc. absurd (arc is);
+      }

@@ -7,15 +7,18 @@ use Rattle.std.proofs.lemmas.Cmp.{tied_itself}
 use Rattle.edi_record.specs.Orders.{point_cmp, points_cmp}
 use Rattle.edi_record.specs.declared.record.Kind.TheVariants.{Par}
 use Rattle.edi_record.specs.declared.record.Point.{Point}
+use Rattle.edi_plan.specs.EarlierLinks.{IsLeast}
 use Rattle.edi_plan.specs.Places.{places_of}
 use Rattle.edi_plan.specs.Plans.{PlanData, record_at}
 use Rattle.edi_plan.proofs.Orders.{exact_lists, point_exact, points_total}
 use Rattle.edi_plan.proofs.PlaceLemmas.{place_there, place_of_kind, places_rise, has_place}
 use Rattle.edi_topo.specs.Arcs.{forward_keys}
+use Rattle.edi_topo.specs.EarlierRecords.{SharesPoints}
 use Rattle.edi_topo.specs.Marks.{AreMarksOf, IsPlaceOfMark}
 use Rattle.edi_topo.specs.inner.Arcs.{RepeatsAnEarlierArc}
 use Rattle.edi_topo.specs.Directions.{is_forward, forward}
-use Rattle.edi_topo.specs.Ranking.{Ties}
+use Rattle.edi_topo.specs.Ranking.{HasItsKey, Ties}
+use Rattle.edi_topo.proofs.LeastPlaces.{least_place, lesser_member}
 use Rattle.edi_topo.proofs.MarksPlaced.{marks_at_places}
 
 abbrev pub count_of : PlanData → ℕ
@@ -68,12 +71,11 @@ module _ (p : PlanData) where
   pub key_is : (m : ℕ) → m < count_of p → key_of p m ≡ forward (points_at (place m))
   key_is m h = get_or-map (λ k. forward (points_at k)) (places_of Par p) m 0 [] h
 
-  repeats_there : (m n : ℕ) → m < n → n < count_of p → points_cmp (key_of p m) (key_of p n) ≡ Equal → RepeatsAnEarlierArc p (place n)
-  repeats_there m n less h tie =
+  shares_there : (m n : ℕ) → m < n → n < count_of p → points_cmp (key_of p m) (key_of p n) ≡ Equal → SharesPoints p (place n) (place m)
+  shares_there m n less h tie =
       let early : m < count_of p = omega (arith, less, h) in
       let keys : forward (points_at (place m)) ≡ forward (points_at (place n)) =
       sym (key_is m early) ∙ (exact_lists point_cmp point_exact (key_of p m) (key_of p n) tie ∙ key_is n h) in (
-        place m,
         points_at (place m),
         points_at (place n),
         places_rise Par p m n less h,
@@ -82,26 +84,31 @@ module _ (p : PlanData) where
         in_one_direction (points_at (place m)) (points_at (place n)) keys,
       )
 
+  -- an earlier arc with the points of a member's is that of an earlier member with its key
+  earlier_member : (j k : ℕ) → j < count_of p → SharesPoints p (place j) k → (i : ℕ) × HasItsKey points_cmp (key_of p) (count_of p) j i × (place i ≡ k)
+  earlier_member j k h d =
+      let a = has_place Par p k d.3.0 d.3.1 in
+      let keys : key_of p a.0 ≡ key_of p j =
+      key_is a.0 a.1 ∙ (ap (λ k. forward (points_at k)) a.2 ∙ (ap forward d.3.2 ∙ (one_direction d.0 d.1 d.5 ∙ (sym (ap forward d.4.2) ∙ sym (key_is j h))))) in
+      (a.0, (lesser_member Par p a.0 j a.1 (omega (arith, a.2, d.2)), ap (points_cmp (key_of p a.0)) (sym keys) ∙ tied_itself points_total (key_of p a.0)), a.2)
+
   -- the member of an arc with the points of an earlier one
   tying_member : (n : ℕ) → RepeatsAnEarlierArc p n → (m : ℕ) × Ties points_cmp (key_of p) (count_of p) m × (place m ≡ n)
   tying_member n d =
-      let a = has_place Par p d.0 d.4.0 d.4.1 in
       let b = has_place Par p n d.5.0 d.5.1 in
-      let less : a.0 < b.0 = before a.0 b.0 a.1 b.1 (omega (arith, a.2, b.2, d.3)) (cases_order a.0 b.0) in
-      let keys : key_of p a.0 ≡ key_of p b.0 =
-      key_is a.0 a.1 ∙ (ap (λ k. forward (points_at k)) a.2 ∙ (ap forward d.4.2 ∙ (one_direction d.1 d.2 d.6 ∙ (sym (ap forward d.5.2) ∙ (sym (ap (λ k. forward (points_at k)) b.2) ∙ sym (key_is b.0 b.1)))))) in
-      (b.0, ((b.1, (a.0, less, ap (points_cmp (key_of p a.0)) (sym keys) ∙ tied_itself points_total (key_of p a.0)))), b.2)
-    where
-      before : (i j : ℕ) → i < count_of p → j < count_of p → place i < place j → (i ≡ j) ⊎ ((i < j) ⊎ (j < i)) → i < j
-      before i j h l less (inl e) = absurd (omega (arith, ap place e))
-      before i j h l less (inr (inl d)) = d
-      before i j h l less (inr (inr d)) = absurd (omega (arith, places_rise Par p j i d h))
+      let a = earlier_member b.0 d.0 b.1 (subst (λ k. SharesPoints p k d.0) (sym b.2) (d.1, d.2, d.3, d.4, d.5, d.6)) in
+      (b.0, (b.1, (a.0, a.1.0, a.1.1)), b.2)
+
+  -- the first member with the key of one has the first arc with the points of its arc
+  pub first_sharing : (m e : ℕ) → m < count_of p → IsLeast (HasItsKey points_cmp (key_of p) (count_of p) m) e → IsLeast (SharesPoints p (place m)) (place e)
+  first_sharing m e h first = least_place Par p (HasItsKey points_cmp (key_of p) (count_of p) m) (SharesPoints p (place m)) (λ i k. omega (arith, k.0, h))
+      (λ i k. shares_there i m k.0 h k.1) (λ k d. earlier_member m k h d) e first
 
   pub none_repeats : ((m : ℕ) → ¬ (Ties points_cmp (key_of p) (count_of p) m)) → (n : ℕ) → ¬ (RepeatsAnEarlierArc p n)
   none_repeats none n d = let t = tying_member n d in none t.0 t.1
 
   pub tie_repeats : (m : ℕ) → Ties points_cmp (key_of p) (count_of p) m → RepeatsAnEarlierArc p (place m)
-  tie_repeats m tie = repeats_there tie.1.0 m tie.1.1 tie.0 tie.1.2
+  tie_repeats m tie = let s = shares_there tie.1.0 m tie.1.1 tie.0 tie.1.2 in (place tie.1.0, s.0, s.1, s.2, s.3, s.4, s.5)
 
   -- the places of the members that tie are those of the arcs with the points of an earlier one
   pub marks_repeat : (q : PlanData) → q ≡ p → (marks read by_place : List Bool) (places : List ℕ) (count : ℕ) → read ≡ marks → places ≡ places_of Par p → count ≡ length p.list

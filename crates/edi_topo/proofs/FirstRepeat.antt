@@ -3,16 +3,19 @@ use Rattle.std.proofs.Common.{◌≡◌, ℕ, ◌<◌, ◌≤◌, ◌⊎◌, inl
 use Rattle.std.proofs.lemmas.List.{get_or-map}
 use Rattle.std.proofs.lemmas.Bool.{cases_order}
 use Rattle.edi_record.specs.declared.record.Kind.TheVariants.{Pno}
+use Rattle.edi_plan.specs.EarlierLinks.{IsLeast}
 use Rattle.edi_plan.specs.Places.{places_of}
 use Rattle.edi_plan.specs.Plans.{PlanData, record_at}
 use Rattle.edi_plan.specs.Whole.{IsWholePlan}
 use Rattle.edi_plan.proofs.PlaceLemmas.{place_there, place_of_kind, places_rise, has_place}
+use Rattle.edi_topo.specs.EarlierRecords.{IsEqualNode}
 use Rattle.edi_topo.specs.NodeKeys.{node_key, node_keys, node_key_cmp, no_node, IsNodeRanking}
 use Rattle.edi_topo.specs.Marks.{AreMarksOf, IsPlaceOfMark}
 use Rattle.edi_topo.specs.inner.Nodes.{RepeatsAnEarlier}
-use Rattle.edi_topo.specs.Ranking.{Ties, IsRanking}
+use Rattle.edi_topo.specs.Ranking.{HasItsKey, Ties, IsRanking}
 use Rattle.edi_topo.specs.TopologyRules.{AreEqualNodes}
 use Rattle.edi_topo.specs.declared.node_key.NodeKey.{NodeKey}
+use Rattle.edi_topo.proofs.LeastPlaces.{least_place, lesser_member}
 use Rattle.edi_topo.proofs.MarksPlaced.{marks_at_places}
 use Rattle.edi_topo.proofs.NodeOrders.{node_order, keys_of_alike, equal_from_keys}
 use Rattle.edi_topo.specs.contracts.node_key.NodeKeyOrd.TheImpl.{ghosts as nodes}
@@ -42,18 +45,23 @@ module _ (p : PlanData) (whole : IsWholePlan p) where
   tie_there m n h l d = node_order (key_of p m) (key_of p n) ∙ subst (λ k. node_key_cmp (key_of p m) k ≡ Equal) (sym (key_is n l))
       (subst (λ k. node_key_cmp k (node_key (record_at p (place n))) ≡ Equal) (sym (key_is m h)) (keys_of_alike p (place m) (place n) d))
 
+  -- an earlier node that is equal to a member's is that of an earlier member with its key
+  earlier_member : (j k : ℕ) → j < count_of p → IsEqualNode p (place j) k → (i : ℕ) × HasItsKey nodes.cmp (key_of p) (count_of p) j i × (place i ≡ k)
+  earlier_member j k h d =
+      let a = has_place Pno p k d.1.first d.1.first_node in
+      (a.0, (lesser_member Pno p a.0 j a.1 (omega (arith, a.2, d.0)), tie_there a.0 j a.1 h (subst (λ n. AreEqualNodes p n (place j)) (sym a.2) d.1)), a.2)
+
   -- the member of a node that equals an earlier one
   tying_member : (n : ℕ) → RepeatsAnEarlier p n → (m : ℕ) × Ties nodes.cmp (key_of p) (count_of p) m × (place m ≡ n)
   tying_member n d =
-      let a = has_place Pno p d.0 d.2.first d.2.first_node in
       let b = has_place Pno p n d.2.second d.2.second_node in
-      let less : a.0 < b.0 = before a.0 b.0 a.1 b.1 (omega (arith, a.2, b.2, d.1)) (cases_order a.0 b.0) in
-      (b.0, ((b.1, (a.0, less, tie_there a.0 b.0 a.1 b.1 (subst (λ k. AreEqualNodes p k (place b.0)) (sym a.2) (subst (AreEqualNodes p d.0) (sym b.2) d.2))))), b.2)
-    where
-      before : (i j : ℕ) → i < count_of p → j < count_of p → place i < place j → (i ≡ j) ⊎ ((i < j) ⊎ (j < i)) → i < j
-      before i j h l less (inl e) = absurd (omega (arith, ap place e))
-      before i j h l less (inr (inl d)) = d
-      before i j h l less (inr (inr d)) = absurd (omega (arith, places_rise Pno p j i d h))
+      let a = earlier_member b.0 d.0 b.1 (subst (λ k. IsEqualNode p k d.0) (sym b.2) (d.1, d.2)) in
+      (b.0, (b.1, (a.0, a.1.0, a.1.1)), b.2)
+
+  -- the first member with the key of one has the first node that is equal to its node
+  pub first_equal : (m e : ℕ) → m < count_of p → IsLeast (HasItsKey nodes.cmp (key_of p) (count_of p) m) e → IsLeast (IsEqualNode p (place m)) (place e)
+  first_equal m e h first = least_place Pno p (HasItsKey nodes.cmp (key_of p) (count_of p) m) (IsEqualNode p (place m)) (λ i k. omega (arith, k.0, h))
+      (λ i k. (places_rise Pno p i m k.0 h, equal_there i m (omega (arith, k.0, h)) h k.1)) (λ k d. earlier_member m k h d) e first
 
   pub none_repeats : ((m : ℕ) → ¬ (Ties nodes.cmp (key_of p) (count_of p) m)) → (n : ℕ) → ¬ (RepeatsAnEarlier p n)
   none_repeats none n d = let t = tying_member n d in none t.0 t.1

@@ -12,7 +12,6 @@ use Rattle.std.proofs.lemmas.List.Sorted.{length_permutation, All-permutation, C
 use Rattle.std.proofs.lemmas.Map.Keys.{sorted_from_all_adjacent, Less-from_sorted}
 use Rattle.edi_topo.specs.Ranking.{keyed, sum_below, rank}
 use Rattle.edi_topo.proofs.Sums.{sum_by-below}
-use Rattle.edi_topo.specs.inner.Keyed.{AllApart}
 
 module _ {K : Type 0} (key : ℕ → K) where
   pub length-keyed : (n : ℕ) → length (keyed key n) ≡ n
@@ -109,7 +108,7 @@ module _ {K : Type 0} (cmp : K → K → Ordering) (total : IsTotalOrder cmp) (k
   place_of m h = Contains-permutation (keyed key n) xs (key m, m) same (has_member key n m h)
 
   -- so no two members tie
-  pub keys_apart : AllApart cmp key n
+  pub keys_apart : (i k : ℕ) → i < k → k < n → cmp (key i) (key k) ≢ Equal
   keys_apart i k l h e = go (cases_order x.0 y.0)
     where
       x : (j : ℕ) × (j < length xs) × (get_or xs j (key i, i) ≡ (key i, i))

@@ -1,6 +1,7 @@
 -- What a loop over keyed members keeps.
-use Rattle.std.proofs.Common.{◌≡◌, ◌≢◌, ℕ, ◌+◌, ◌<◌, ◌≤◌, ◌⊎◌, inl, inr, min, List, length, get_or, set, Option, Some, None, MatchOption, sym, ap, ◌∙◌, subst, arith, ⊎_elim, ◌-◌, All, AllPairs, Ordering, Equal, get_or-set_same, get_or-set_other}
-use Rattle.std.proofs.lemmas.Bool.{cases_eq, cases_lt}
+use Rattle.std.proofs.Common.{◌≡◌, ◌≢◌, ℕ, ◌+◌, ◌<◌, ◌≤◌, ◌⊎◌, inl, inr, List, length, get_or, set, Option, Some, None, MatchOption, sym, ap, ◌∙◌, subst, arith, ⊎_elim, ◌-◌, All, AllPairs, Ordering, Equal, get_or-set_same, get_or-set_other}
+use Rattle.std.proofs.lemmas.Bool.{cases_eq}
+use Rattle.edi_topo.specs.declared.fault.Tied.{Tied}
 use Rattle.edi_topo.specs.inner.Keyed.{IsLeastRepeat, IsLeastRepeatIfAny}
 use Rattle.std.proofs.lemmas.List.{get_or_read}
 
@@ -38,7 +39,7 @@ module _ {K : Type 0} (cmp : K → K → Ordering) (pairs : List (K × ℕ)) (i 
   at_place : (P : ℕ → Type 0) (k : ℕ) → k + 1 ≡ i → P (i - 1) → P k
   at_place P k e h = let f : i - 1 ≡ k = omega arith in subst P f h
 
-  pub untied_more : (least : Option ℕ) → ((d : K × ℕ) → cmp (get_or pairs (i - 1) d).0 (get_or pairs i d).0 ≡ Equal → ⊥)
+  pub untied_more : (least : Option Tied) → ((d : K × ℕ) → cmp (get_or pairs (i - 1) d).0 (get_or pairs i d).0 ≡ Equal → ⊥)
       → IsLeastRepeatIfAny cmp pairs i least → IsLeastRepeatIfAny cmp pairs (i + 1) least
   untied_more None apart before = λ k d h e. ⊎_elim (λ less. before k d less e) (λ last. apart d (tied_last k d last e)) (cases_seen k h)
     where
@@ -50,56 +51,48 @@ module _ {K : Type 0} (cmp : K → K → Ordering) (pairs : List (K × ℕ)) (i 
     seen = omega (arith, before.seen);
     repeats = before.repeats;
     is = before.is;
+    before = before.before;
     least = λ k d h e. ⊎_elim (λ less. before.least k d less e) (λ last. absurd (apart d (tied_last k d last e))) (cases_seen k h);
   }
     where
       tied_last : (k : ℕ) (d : K × ℕ) → k + 1 ≡ i → cmp (get_or pairs k d).0 (get_or pairs (k + 1) d).0 ≡ Equal → cmp (get_or pairs (i - 1) d).0 (get_or pairs i d).0 ≡ Equal
       tied_last k d last e = let f : k ≡ i - 1 = omega arith in subst (λ j. cmp (get_or pairs (i - 1) d).0 (get_or pairs j d).0 ≡ Equal) last (subst (λ j. cmp (get_or pairs j d).0 (get_or pairs (k + 1) d).0 ≡ Equal) f e)
 
-  module _ (tied : (d : K × ℕ) → cmp (get_or pairs (i - 1) d).0 (get_or pairs i d).0 ≡ Equal) (member : ℕ) (is : (d : K × ℕ) → (get_or pairs i d).1 ≡ member) where
+  module _ (tied : (d : K × ℕ) → cmp (get_or pairs (i - 1) d).0 (get_or pairs i d).0 ≡ Equal) (here_is : Tied) (is : (d : K × ℕ) → (get_or pairs i d).1 ≡ here_is.member)
+      (is_before : (d : K × ℕ) → (get_or pairs (i - 1) d).1 ≡ here_is.earlier) where
     round : i - 1 + 1 ≡ i
     round = omega arith
 
     tied_here : (d : K × ℕ) → cmp (get_or pairs (i - 1) d).0 (get_or pairs (i - 1 + 1) d).0 ≡ Equal
     tied_here d = subst (λ j. cmp (get_or pairs (i - 1) d).0 (get_or pairs j d).0 ≡ Equal) (sym round) (tied d)
 
-    member_last : (k : ℕ) (d : K × ℕ) → k + 1 ≡ i → (get_or pairs (k + 1) d).1 ≡ member
+    member_last : (k : ℕ) (d : K × ℕ) → k + 1 ≡ i → (get_or pairs (k + 1) d).1 ≡ here_is.member
     member_last k d last = ap (λ j. (get_or pairs j d).1) last ∙ is d
 
-    new_least : (r : ℕ) → r ≡ member → ((k : ℕ) (d : K × ℕ) → k + 1 < i → cmp (get_or pairs k d).0 (get_or pairs (k + 1) d).0 ≡ Equal → r ≤ (get_or pairs (k + 1) d).1) → IsLeastRepeat cmp pairs (i + 1) r
-    new_least r e below = record {
+    new_least : ((k : ℕ) (d : K × ℕ) → k + 1 < i → cmp (get_or pairs k d).0 (get_or pairs (k + 1) d).0 ≡ Equal → here_is.member ≤ (get_or pairs (k + 1) d).1) → IsLeastRepeat cmp pairs (i + 1) here_is
+    new_least below = record {
       place = i - 1;
       within = subst (λ j. j < length pairs) (sym round) here;
       seen = omega arith;
       repeats = tied_here;
-      is = λ d. ap (λ j. (get_or pairs j d).1) round ∙ (is d ∙ sym e);
+      is = λ d. ap (λ j. (get_or pairs j d).1) round ∙ is d;
+      before = is_before;
       least = λ k d h t. ⊎_elim (λ less. below k d less t) (λ last. omega (arith, member_last k d last)) (cases_seen k h);
     }
 
-    pub tied_more : (least : Option ℕ) (r : ℕ) → MatchOption least (r ≡ member) (λ other. r ≡ min other member) → IsLeastRepeatIfAny cmp pairs i least → IsLeastRepeatIfAny cmp pairs (i + 1) (Some r)
-    tied_more None r e before = new_least r e (λ k d h t. absurd (before k d h t))
-    tied_more (Some m) r e before = go (cases_lt m member)
-      where
-        go : (m < member) ⊎ (member ≤ m) → IsLeastRepeat cmp pairs (i + 1) r
-        go (inl less) =
-            let same : m ≡ r = omega arith in
-            record {
-              place = before.place;
-              within = before.within;
-              seen = omega (arith, before.seen);
-              repeats = before.repeats;
-              is = λ d. before.is d ∙ same;
-              least = λ k d h t. ⊎_elim (λ l. omega (arith, before.least k d l t)) (λ last. omega (arith, member_last k d last)) (cases_seen k h);
-            }
-        go (inr more) = new_least r (omega arith) (λ k d h t. omega (arith, before.least k d h t))
+    old_least : (other : Tied) → IsLeastRepeat cmp pairs i other → other.member ≤ here_is.member → IsLeastRepeat cmp pairs (i + 1) other
+    old_least other found le = record {
+      place = found.place;
+      within = found.within;
+      seen = omega (arith, found.seen);
+      repeats = found.repeats;
+      is = found.is;
+      before = found.before;
+      least = λ k d h t. ⊎_elim (λ l. found.least k d l t) (λ last. omega (arith, le, member_last k d last)) (cases_seen k h);
+    }
 
-pub at_the_end : {K : Type 0} (cmp : K → K → Ordering) (pairs : List (K × ℕ)) (i : ℕ) → length pairs ≤ i → (1 ≤ length pairs → i ≤ length pairs) → (least : Option ℕ) → IsLeastRepeatIfAny cmp pairs i least → IsLeastRepeatIfAny cmp pairs (length pairs) least
-at_the_end cmp pairs i past not_past None h = λ k d l. h k d (omega arith)
-at_the_end cmp pairs i past not_past (Some m) h = record {
-  place = h.place;
-  within = h.within;
-  seen = h.within;
-  repeats = h.repeats;
-  is = h.is;
-  least = λ k d l. h.least k d (omega arith);
-}
+    pub tied_more : (least : Option Tied) (r : Tied) → MatchOption least (r ≡ here_is) (λ other. ((r ≡ other) × (other.member ≤ here_is.member)) ⊎ ((r ≡ here_is) × (here_is.member ≤ other.member)))
+        → IsLeastRepeatIfAny cmp pairs i least → IsLeastRepeatIfAny cmp pairs (i + 1) (Some r)
+    tied_more None r e found = subst (IsLeastRepeat cmp pairs (i + 1)) (sym e) (new_least (λ k d h t. absurd (found k d h t)))
+    tied_more (Some other) r (inl e) found = subst (IsLeastRepeat cmp pairs (i + 1)) (sym e.0) (old_least other found e.1)
+    tied_more (Some other) r (inr e) found = subst (IsLeastRepeat cmp pairs (i + 1)) (sym e.0) (new_least (λ k d h t. omega (arith, e.1, found.least k d h t)))

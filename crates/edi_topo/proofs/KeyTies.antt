@@ -1,5 +1,5 @@
 -- In the order of the keys, the members that follow one with their key are those with the key of an earlier one.
-use Rattle.std.proofs.Common.{◌≡◌, ◌≢◌, ℕ, zero, suc, ◌+◌, ◌-◌, ◌<◌, ◌≤◌, ◌⊎◌, inl, inr, Bool, true, false, true≢false, nat_eq, List, [], ◌∷◌, length, get_or, refl, sym, ap, ◌∙◌, subst, arith, All, Contains, IsPermutation, IsSorted, Ordering, Less, Equal, Greater, is_lt, is_gt, nat_cmp, eq-eqb, ne_eqb}
+use Rattle.std.proofs.Common.{◌≡◌, ◌≢◌, ℕ, zero, suc, ◌+◌, ◌-◌, ◌<◌, ◌≤◌, ◌⊎◌, inl, inr, Bool, true, false, true≢false, nat_eq, List, [], ◌∷◌, length, get_or, refl, sym, ap, ◌∙◌, subst, arith, All, IsPermutation, IsSorted, Ordering, Less, Equal, Greater, is_lt, is_gt, nat_cmp, eq-eqb, ne_eqb}
 use Rattle.std.specs.List.{list_any, AllByRecursion, IsDistinct}
 use Rattle.std.specs.Cmp.{IsTotalOrder, IsEquivalence}
 use Rattle.std.specs.Ordering.{ordering_then, ordering_reverse}
@@ -10,8 +10,9 @@ use Rattle.std.proofs.lemmas.List.Elements.{recursion_from_All}
 use Rattle.std.proofs.lemmas.List.Sorted.{All-permutation, Contains-permutation, length_permutation, ranks_by, sorted_far}
 use Rattle.std.proofs.lemmas.Map.Keys.{IsDistinct-push, IsDistinct-IsPermutation, apart_from_distinct}
 use Rattle.edi_topo.specs.Marks.{AreMarksOf}
-use Rattle.edi_topo.specs.Ranking.{keyed, Ties}
-use Rattle.edi_topo.specs.inner.Keyed.{IsFirstTie, IsLeastRepeat, FollowsItsKey}
+use Rattle.edi_topo.specs.Ranking.{keyed, HasItsKey, IsFirstTie, Ties}
+use Rattle.edi_topo.specs.declared.fault.Tied.{Tied}
+use Rattle.edi_topo.specs.inner.Keyed.{IsLeastRepeat, FollowsItsKey}
 use Rattle.edi_topo.proofs.KeyOrder.{has_member, length-keyed, AreMembers}
 
 module _ {K : Type 0} (key : ℕ → K) where
@@ -145,13 +146,32 @@ module _ {K : Type 0} (cmp : K → K → Ordering) (total : IsTotalOrder cmp) (k
           let less : (get_or xs x.0 d).1 < (get_or xs y.0 d).1 = omega (arith, t.1.1, member d, earlier_member d) in
           absurd (true≢false (sym (ap is_lt (less_of _ _ less)) ∙ g))
 
-  pub first_tie_is : (m : ℕ) → IsLeastRepeat cmp xs (length xs) m → IsFirstTie cmp key n m
-  first_tie_is m r =
-      let tie = follower_ties m (record { place = r.place; within = r.within; seen = r.within; repeats = r.repeats; is = r.is }) in
-      record { within = tie.0; tied = tie.1; first = λ i less earlier. none_before i less (tie_follows i (omega (arith, less, tie.0), earlier)) }
+  pub first_tie_is : (tied : Tied) → IsLeastRepeat cmp xs (length xs) tied → IsFirstTie cmp key n tied
+  first_tie_is tied r = record {
+    ties = tie;
+    least = none_before;
+    earlier = record { is = own; least = λ k h. go k h (cases_order tied.earlier k) };
+  }
     where
-      none_before : (i : ℕ) → i < m → FollowsItsKey cmp xs (length xs) i → ⊥
-      none_before i less f = omega (arith, less, f.is (key m, m), r.least f.place (key m, m) f.within (f.repeats (key m, m)))
+      follows : FollowsItsKey cmp xs (length xs) tied.member
+      follows = record { place = r.place; within = r.within; seen = r.within; repeats = r.repeats; is = r.is }
+
+      tie : Ties cmp key n tied.member
+      tie = follower_ties tied.member follows
+
+      own : HasItsKey cmp key n tied.member tied.earlier
+      own = subst (HasItsKey cmp key n tied.member) (r.before (key tied.member, tied.member)) (earlier tied.member follows, keys_tie tied.member follows)
+
+      none_before : (m : ℕ) → Ties cmp key n m → tied.member ≤ m
+      none_before m t = let f = tie_follows m t in omega (arith, f.is (key m, m), r.least f.place (key m, m) f.within (f.repeats (key m, m)))
+
+      -- an earlier one with the key would make a lesser tie of the one before
+      go : (k : ℕ) → HasItsKey cmp key n tied.member k → (tied.earlier ≡ k) ⊎ ((tied.earlier < k) ⊎ (k < tied.earlier)) → tied.earlier ≤ k
+      go k h (inl e) = omega (arith, e)
+      go k h (inr (inl less)) = omega (arith, less)
+      go k h (inr (inr more)) =
+          let same : cmp (key k) (key tied.earlier) ≡ Equal = total.congr (key k) (key tied.member) (key tied.earlier) h.1 ∙ tied_back total (key tied.earlier) (key tied.member) own.1 in
+          absurd (omega (arith, own.0, none_before tied.earlier (omega (arith, own.0, tie.0), (k, more, same))))
 
   long : length xs ≡ n
   long = length_permutation _ _ same ∙ length-keyed key n

@@ -5,6 +5,7 @@ pub mod KeyTies
 pub mod TieMarks
 pub mod MarksPlaced
 pub mod NodeOrders
+pub mod LeastPlaces
 pub mod FirstRepeat
 pub mod RankOrder
 pub mod FirstDifference

@@ -3,8 +3,10 @@ use Rattle.std.specs.Prelude.{◌≡◌, ℕ, zero, suc, ◌+◌, ◌<◌, ◌�
 use Rattle.std.specs.declared.cmp.Ordering.{Ordering}
 use Rattle.std.specs.declared.cmp.Ordering.TheVariants.{Equal}
 use Rattle.std.specs.Ordering.{is_lt}
+use Rattle.edi_plan.specs.EarlierLinks.{IsLeast}
 use Rattle.edi_topo.specs.declared.fault.TieFault.{TieFault}
 use Rattle.edi_topo.specs.declared.fault.TieFault.TheVariants.{Memory, Tie}
+use Rattle.edi_topo.specs.declared.fault.Tied.{Tied}
 
 -- the sum over the numbers below n
 abbrev pub sum_below : ℕ → (ℕ → ℕ) → ℕ
@@ -24,6 +26,16 @@ module _ {K : Type 0} (cmp : K → K → Ordering) (key : ℕ → K) (size : ℕ
   -- a member with the key of an earlier one
   abbrev pub Ties : ℕ → Type 0
   Ties m = (m < size) × ((earlier : ℕ) × (earlier < m) × (cmp (key earlier) (key m) ≡ Equal))
+
+  -- an earlier member has the key of this one
+  abbrev pub HasItsKey : ℕ → ℕ → Type 0
+  HasItsKey m earlier = (earlier < m) × (cmp (key earlier) (key m) ≡ Equal)
+
+  -- the least member with the key of an earlier one, and the first with this key
+  pub record IsFirstTie (tied : Tied) : Type 0 where
+    pub ties : Ties tied.member
+    pub least : (n : ℕ) → Ties n → tied.member ≤ n
+    pub earlier : IsLeast (HasItsKey tied.member) tied.earlier
 
   -- no two keys are equal, and each member has its number; these are the numbers from 1 to the count
   pub record IsRanking (numbers : List ℕ) : Type 0 where

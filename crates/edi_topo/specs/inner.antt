@@ -5,3 +5,4 @@ pub mod Keyed
 pub mod Placed
 pub mod Nodes
 pub mod Arcs
+pub mod Repeats

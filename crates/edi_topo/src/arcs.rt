@@ -1,17 +1,19 @@
 //! The arcs of a plan, by their keys: rule 405.
 
-ghost use Rattle.std.specs.Prelude.{◌≡◌, ◌<◌, ℕ, [], length, slice_index, slice_index_or, IfOk};
-ghost use Rattle.std.specs.Result.{result_err};
+ghost use Rattle.std.specs.Prelude.{◌≡◌, ◌<◌, ℕ, [], length, slice_index, slice_index_or, IfOk, IfErr};
 ghost use Rattle.edi_record.specs.declared.record.Kind.TheVariants.{Par};
+ghost use Rattle.edi_plan.specs.EarlierLinks.{IsLeast};
 ghost use Rattle.edi_plan.specs.Places.{places_of};
 ghost use Rattle.edi_topo.specs.Arcs.{forward_keys, IsForwardRanking};
+ghost use Rattle.edi_topo.specs.EarlierRecords.{SharesPoints};
 ghost use Rattle.edi_topo.specs.inner.Arcs.{IsFirstRepeatedArcIfAny};
+ghost use Rattle.edi_topo.specs.inner.Repeats.{repeat_place};
 
-use crate::fault::TieFault;
 use crate::forward_points::ForwardPoints;
 use crate::layer::Layer;
 use crate::numbers::Ranks;
-use crate::ranking::ranks;
+use crate::ranking::ranks_or_tie;
+use crate::repeat::Repeat;
 use crate::sound::Sound;
 use edi_plan::Plan;
 use edi_record::Kind;
@@ -82,16 +84,22 @@ impl<'a> Layer for ArcLayer<'a> {
     }
 }
 
-/// The numbers of the arcs, in file order; or the place of the first with the points of an earlier one, in
-/// either direction.
-pub(crate) fn ranks_or_repeat(alloc: Global, plan: &Plan) -> Result<Result<Ranks, u32>, AllocError>
+/// The numbers of the arcs, in file order; or the first with the points of an earlier one, in either direction, with the
+/// first that has them.
+pub(crate) fn ranks_or_repeat(
+    alloc: Global,
+    plan: &Plan,
+) -> Result<Result<Ranks, Repeat>, AllocError>
     ensures ranks { IfOk result (λ found. IfOk found (IsForwardRanking plan.now)) }
-    ensures repeat { IfOk result (λ found. IsFirstRepeatedArcIfAny plan.now (result_err found)) }
+    ensures repeat { IfOk result (λ found. IsFirstRepeatedArcIfAny plan.now (repeat_place found)) }
+    ensures earlier { IfOk result (λ found. IfErr found (λ r. IsLeast (SharesPoints plan.now r.place) r.earlier)) }
 {
     let arcs = ArcLayer::in_plan(plan);
-    match ranks(alloc, &arcs) {
+    match ranks_or_tie(alloc, &arcs)? {
         Ok(ranks) => Ok(Ok(ranks)),
-        Err(TieFault::Tie(member)) => Ok(Err(arcs.place(member))),
-        Err(TieFault::Memory(error)) => Err(error),
+        Err(tied) => Ok(Err(Repeat {
+            place: arcs.place(tied.member),
+            earlier: arcs.place(tied.earlier),
+        })),
     }
 }

@@ -1,32 +1,34 @@
 //! The rules of topology at one record.
 
-ghost use Rattle.std.specs.Prelude.{◌≡◌, ◌↔◌, ◌<◌, ◌+◌, Some, IsTrue, IfOk, MatchOption};
-ghost use Rattle.std.specs.Result.{result_err};
+ghost use Rattle.std.specs.Prelude.{◌≡◌, ◌↔◌, ◌<◌, ◌+◌, ◌-◌, ℕ, Some, IsTrue, IfOk, MatchOption};
 ghost use Rattle.edi_line.specs.Refusal.{IsLeastBroken, IsUnbroken};
 ghost use Rattle.edi_record.specs.declared.record.Kind.TheVariants.{Par, Pfe, Pno};
 ghost use Rattle.edi_plan.specs.Joined.{IsJoined};
-ghost use Rattle.edi_plan.specs.Plans.{IsPlace, record_at};
+ghost use Rattle.edi_plan.specs.Plans.{PlanData, IsPlace, record_at};
+ghost use Rattle.edi_topo.specs.EarlierRecords.{IsEarlierByRule};
 ghost use Rattle.edi_topo.specs.inner.Arcs as arcs_;
 ghost use Rattle.edi_topo.specs.inner.AtRecord.{AreNotBefore, AreRecordFindings, IsLeastAtIfAny, IsUpTo};
 ghost use Rattle.edi_topo.specs.inner.Faces.{AreFaced};
 ghost use Rattle.edi_topo.specs.inner.Nodes as nodes_;
+ghost use Rattle.edi_topo.specs.inner.Repeats.{repeat_place, repeated_place};
 ghost use Rattle.edi_topo.specs.TopologyRules.{BreaksTopologyRule};
 
 use crate::directions::equals_reverse;
 use crate::ends::{ends_elsewhere, starts_elsewhere};
 use crate::faces::side_marks;
 use crate::numbers::Ranks;
+use crate::repeat::Repeat;
 use crate::{arcs, nodes};
 use edi_plan::Plan;
 use edi_record::Kind;
 use std::alloc::{AllocError, Global};
 
-/// What is looked up at each record: the numbers of the nodes and of the arcs, or the place of the first
-/// that repeats an earlier one; and which records are on a side of an arc.
+/// What is looked up at each record: the numbers of the nodes and of the arcs, or the first that repeats an earlier one,
+/// with that; and which records are on a side of an arc.
 #[derive(Drop)]
 pub(crate) struct RecordFindings {
-    pub(crate) nodes: Result<Ranks, u32>,
-    pub(crate) arcs: Result<Ranks, u32>,
+    pub(crate) nodes: Result<Ranks, Repeat>,
+    pub(crate) arcs: Result<Ranks, Repeat>,
     faced: Vec<bool>,
 }
 
@@ -44,12 +46,22 @@ impl RecordFindings {
 }
 
 /// The place of the first repeat, if there is one.
-fn repeat_in(found: &Result<Ranks, u32>) -> Option<u32>
-    ensures { result ≡ result_err found.now }
+fn repeat_in(found: &Result<Ranks, Repeat>) -> Option<u32>
+    ensures { result ≡ repeat_place found.now }
 {
     match found {
         Ok(_) => None,
-        Err(place) => Some(*place),
+        Err(repeat) => Some(repeat.place),
+    }
+}
+
+/// The place of what the first repeat repeats, if there is one.
+fn repeated_in(found: &Result<Ranks, Repeat>) -> Option<u64>
+    ensures { result ≡ repeated_place found.now }
+{
+    match found {
+        Ok(_) => None,
+        Err(repeat) => Some(u64::from(repeat.earlier)),
     }
 }
 
@@ -142,4 +154,17 @@ pub(crate) fn first_broken(plan: &Plan, findings: &RecordFindings) -> Option<(u1
         }
     }
     None
+}
+
+/// The first record that a rule speaks of where it is the first broken: 403 of an equal node, 405 of an arc with the same
+/// points, the others of none.
+pub(crate) fn earlier_of(findings: &RecordFindings, rule: u16) -> Option<u64>
+    ensures { (p : PlanData) (at : ℕ) → AreRecordFindings p findings.now
+        → IsLeastBroken (BreaksTopologyRule p) rule at → IsEarlierByRule p rule (at - 1) result }
+{
+    match rule {
+        403 => repeated_in(&findings.nodes),
+        405 => repeated_in(&findings.arcs),
+        _ => None,
+    }
 }

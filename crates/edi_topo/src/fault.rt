@@ -12,3 +12,10 @@ pub enum TieFault {
     #[error("member {0} has the key of an earlier member")]
     Tie(u32),
 }
+
+/// The least member that has the key of an earlier one, and the first member with this key.
+#[derive(Drop)]
+pub struct Tied {
+    pub member: u32,
+    pub earlier: u32,
+}

@@ -3,14 +3,13 @@
 ghost use Rattle.std.specs.Prelude.{◌≡◌, ◌<◌, length, slice_index_or, IfOk};
 ghost use Rattle.edi_record.specs.declared.record.Kind.TheVariants.{Pno};
 ghost use Rattle.edi_plan.specs.Plans.{IsPlace, record_at};
-ghost use Rattle.edi_topo.specs.NodeKeys.{node_key, node_key_cmp, no_point};
+ghost use Rattle.edi_topo.specs.NodeKeys.{node_key, no_point};
 
 use edi_line::{BorrowedList, ListOfBorrowed};
 use edi_plan::{Plan, PlanAttribute, sorted_attributes};
 use edi_record::{Extra, Point};
 use edi_schema::ClassRef;
 use std::alloc::{AllocError, Global};
-use std::cmp::Ordering;
 
 /// What orders nodes: the place, the class, the attributes in order, and the extras.
 #[derive(PartialEq, Eq, PartialOrd, Ord)]
@@ -30,13 +29,6 @@ impl Drop for NodeKey<'_> {
             extras: _,
         } = self;
     }
-}
-
-/// Nodes go by place, then class, then attributes, then extras.
-pub fn compare_nodes(a: &NodeKey<'_>, b: &NodeKey<'_>) -> Ordering
-    ensures { result ≡ node_key_cmp a.now b.now }
-{
-    a.cmp(b)
 }
 
 pub(crate) fn first_point(points: &[Point]) -> Point

@@ -1,19 +1,21 @@
 //! The nodes of a plan, by their keys.
 
-ghost use Rattle.std.specs.Prelude.{◌≡◌, ◌<◌, ◌≤◌, ℕ, length, slice_index, slice_index_or, map, IfOk, MatchOption, Some};
-ghost use Rattle.std.specs.Result.{result_err};
+ghost use Rattle.std.specs.Prelude.{◌≡◌, ◌<◌, ◌≤◌, ℕ, length, slice_index, slice_index_or, map, IfOk, IfErr, MatchOption, Some};
 ghost use Rattle.edi_record.specs.declared.record.Kind.TheVariants.{Pno};
+ghost use Rattle.edi_plan.specs.EarlierLinks.{IsLeast};
 ghost use Rattle.edi_plan.specs.Places.{places_of};
 ghost use Rattle.edi_plan.specs.Plans.{IsPlace, record_at};
 ghost use Rattle.edi_topo.specs.NodeKeys.{node_keys, no_node, IsNodeRanking};
 ghost use Rattle.edi_topo.specs.TopologyRules.{AreEqualNodes};
+ghost use Rattle.edi_topo.specs.EarlierRecords.{IsEqualNode};
 ghost use Rattle.edi_topo.specs.inner.Nodes.{IsFirstRepeatedNodeIfAny};
+ghost use Rattle.edi_topo.specs.inner.Repeats.{repeat_place};
 
-use crate::fault::TieFault;
 use crate::layer::Layer;
 use crate::node_key::{NodeKey, node_key_at};
 use crate::numbers::Ranks;
-use crate::ranking::ranks;
+use crate::ranking::ranks_or_tie;
+use crate::repeat::Repeat;
 use crate::sound::Sound;
 use edi_plan::Plan;
 use edi_record::Kind;
@@ -84,16 +86,23 @@ impl<'a> Layer for NodeLayer<'a> {
     }
 }
 
-/// The numbers of the nodes, in file order; or the place of the first that is equal to an earlier one.
-pub(crate) fn ranks_or_repeat(alloc: Global, plan: &Plan) -> Result<Result<Ranks, u32>, AllocError>
+/// The numbers of the nodes, in file order; or the first that is equal to an earlier one, with the first that it is equal
+/// to.
+pub(crate) fn ranks_or_repeat(
+    alloc: Global,
+    plan: &Plan,
+) -> Result<Result<Ranks, Repeat>, AllocError>
     ensures ranks { IfOk result (λ found. IfOk found (IsNodeRanking plan.now)) }
-    ensures repeat { IfOk result (λ found. IsFirstRepeatedNodeIfAny plan.now (result_err found)) }
+    ensures repeat { IfOk result (λ found. IsFirstRepeatedNodeIfAny plan.now (repeat_place found)) }
+    ensures earlier { IfOk result (λ found. IfErr found (λ r. IsLeast (IsEqualNode plan.now r.place) r.earlier)) }
 {
     plan.keeps();
     let nodes = NodeLayer::in_plan(plan);
-    match ranks(alloc, &nodes) {
+    match ranks_or_tie(alloc, &nodes)? {
         Ok(ranks) => Ok(Ok(ranks)),
-        Err(TieFault::Tie(member)) => Ok(Err(nodes.place(member))),
-        Err(TieFault::Memory(error)) => Err(error),
+        Err(tied) => Ok(Err(Repeat {
+            place: nodes.place(tied.member),
+            earlier: nodes.place(tied.earlier),
+        })),
     }
 }

@@ -1,12 +1,12 @@
 //! Numbers of members, by their keys.
 
-ghost use Rattle.std.specs.Prelude.{◌≡◌, ◌≢◌, ◌<◌, ◌≤◌, ◌+◌, ◌-◌, ◌^◌, ℕ, length, slice_index, All, AllPairs, IfOk, IfErr, IsErrOf, IsPermutation, MatchBool, MatchOption, min, IsSorted, OnOk};
+ghost use Rattle.std.specs.Prelude.{◌≡◌, ◌≢◌, ◌⊎◌, ◌<◌, ◌≤◌, ◌+◌, ◌-◌, ◌^◌, ℕ, length, slice_index, All, AllPairs, IfOk, IfErr, IsPermutation, MatchBool, MatchOption, IsSorted, OnOk};
 ghost use Rattle.std.specs.List.{slice_index_or};
 ghost use Rattle.std.specs.Ordering.{nat_cmp, ordering_then};
-ghost use Rattle.edi_topo.specs.inner.Keyed.{AllApart, IsFirstTie, IsLeastRepeatIfAny};
-ghost use Rattle.edi_topo.specs.Ranking.{keyed, IsRanking, IsTie, rank};
+ghost use Rattle.edi_topo.specs.inner.Keyed.{IsLeastRepeatIfAny};
+ghost use Rattle.edi_topo.specs.Ranking.{keyed, IsFirstTie, IsRanking, IsTie};
 
-use crate::fault::TieFault;
+use crate::fault::{TieFault, Tied};
 use crate::layer::Layer;
 use crate::numbers::Ranks;
 use edi_line::Sequence;
@@ -58,13 +58,14 @@ fn number_members<K>(alloc: Global, pairs: &[(K, u32)]) -> Result<Vec<u32>, Allo
     Ok(numbers)
 }
 
-/// The lesser of two members, of which the first may be missing.
-fn lesser(least: Option<u32>, member: u32) -> u32
-    ensures { MatchOption least (result ≡ member) (λ other. result ≡ min other member) }
+/// Of two members, each with an earlier one, the lesser; the first may be missing.
+fn lesser(least: Option<Tied>, tied: Tied) -> Tied
+    ensures { MatchOption least (result ≡ tied) (λ other. ((result ≡ other) × (other.member ≤ tied.member))
+        ⊎ ((result ≡ tied) × (tied.member ≤ other.member))) }
 {
     match least {
-        Some(other) => other.min(member),
-        None => member,
+        Some(other) if other.member < tied.member => other,
+        _ => tied,
     }
 }
 
@@ -87,52 +88,61 @@ pub(crate) fn member_at<K>(pairs: &[(K, u32)], i: usize) -> u32
     pairs[i].1
 }
 
-/// The least member that follows one with its key.
-fn first_tie<K: Ord>(pairs: &[(K, u32)]) -> Option<u32>
+/// The member at a place, and the one before.
+fn tied_at<K>(pairs: &[(K, u32)], i: usize) -> Tied
+    requires low { 1 ≤ i }
+    requires within { i < length pairs.now }
+    ensures member { (d : K × ℕ) → (slice_index_or pairs.now i d).1 ≡ result.member }
+    ensures earlier { (d : K × ℕ) → (slice_index_or pairs.now (i - 1) d).1 ≡ result.earlier }
+{
+    Tied {
+        member: member_at(pairs, i),
+        earlier: member_at(pairs, i - 1),
+    }
+}
+
+/// The least member that follows one with its key, and that one.
+fn first_tie<K: Ord>(pairs: &[(K, u32)]) -> Option<Tied>
     ensures { IsLeastRepeatIfAny K.cmp pairs.now (length pairs.now) result }
 {
     let mut least = None;
     for i in 1..pairs.len() {
         if is_repeat(pairs, i) {
-            least = Some(lesser(least, member_at(pairs, i)));
+            least = Some(lesser(least, tied_at(pairs, i)));
         }
     }
     least
 }
 
-/// The number of each member, in the members' order.
-fn numbers_by_key<L: Layer>(alloc: Global, layer: &L) -> Result<Vec<u32>, TieFault>
-    ensures numbers { IfOk result (λ numbers. (m : ℕ) → m < L.size layer.now
-        → slice_index numbers.items m ≡ rank L.Key.cmp (L.key_of layer.now) (L.size layer.now) m) }
-    ensures length { IfOk result (λ numbers. length numbers.items ≡ L.size layer.now) }
-    ensures tie { (m : ℕ) → IsErrOf result (TieFault.Tie m)
-        → IsFirstTie L.Key.cmp (L.key_of layer.now) (L.size layer.now) m }
-    ensures apart { OnOk result (AllApart L.Key.cmp (L.key_of layer.now) (L.size layer.now)) }
-    ensures onto { IfOk result (λ numbers. (i : ℕ) → i < L.size layer.now
-        → (m : ℕ) × (m < L.size layer.now) × (slice_index numbers.items m ≡ i + 1)) }
+/// The number of each member: one more than the count of lesser keys. Where a member has the key of an
+/// earlier one there are no numbers, and the least such member is named, with the first that has its key. It fails only
+/// where memory is lacking.
+pub fn ranks_or_tie<L: Layer>(alloc: Global, layer: &L) -> Result<Result<Ranks, Tied>, AllocError>
+    ensures numbers { IfOk result (λ found.
+        IfOk found (IsRanking L.Key.cmp (L.key_of layer.now) (L.size layer.now))) }
+    ensures tie { IfOk result (λ found.
+        IfErr found (IsFirstTie L.Key.cmp (L.key_of layer.now) (L.size layer.now))) }
 {
-    let pairs = match members_by_key(alloc, layer) {
-        Ok(pairs) => pairs,
-        Err(error) => return Err(TieFault::Memory(error)),
-    };
+    let pairs = members_by_key(alloc, layer)?;
     let sorted: &[(L::Key, u32)] = &pairs;
     match first_tie(sorted) {
-        Some(member) => Err(TieFault::Tie(member)),
-        None => match number_members(alloc, sorted) {
-            Ok(numbers) => Ok(numbers),
-            Err(error) => Err(TieFault::Memory(error)),
-        },
+        Some(tied) => Ok(Err(tied)),
+        None => {
+            let numbers = number_members(alloc, sorted)?;
+            Ok(Ok(Ranks::from_numbers(Sequence::from_vec(numbers))))
+        }
     }
 }
 
-/// The number of each member: one more than the count of lesser keys. Where a member has the key of an
-/// earlier one there are no numbers, and the least such member is named.
+/// What `ranks_or_tie` gives, but for the first member with the key: where a member has the key of an earlier one the
+/// least such member alone is named.
 pub fn ranks<L: Layer>(alloc: Global, layer: &L) -> Result<Ranks, TieFault>
     ensures numbers { IfOk result (IsRanking L.Key.cmp (L.key_of layer.now) (L.size layer.now)) }
     ensures tie { IfErr result (IsTie L.Key.cmp (L.key_of layer.now) (L.size layer.now)) }
 {
-    match numbers_by_key(alloc, layer) {
-        Ok(numbers) => Ok(Ranks::from_numbers(Sequence::from_vec(numbers))),
-        Err(fault) => Err(fault),
+    match ranks_or_tie(alloc, layer) {
+        Ok(Ok(ranks)) => Ok(ranks),
+        Ok(Err(tied)) => Err(TieFault::Tie(tied.member)),
+        Err(error) => Err(TieFault::Memory(error)),
     }
 }

@@ -4,7 +4,7 @@ ghost use Rattle.edi_topo.specs.Arcs.{IsForwardRanking};
 ghost use Rattle.edi_topo.specs.inner.AtRecord.{AreRecordFindings};
 ghost use Rattle.edi_topo.specs.NodeKeys.{IsNodeRanking};
 
-use crate::at_record::{RecordFindings, first_broken};
+use crate::at_record::{RecordFindings, earlier_of, first_broken};
 use crate::fault::TopoFault;
 use crate::numbers::Ranks;
 use edi_plan::Plan;
@@ -28,11 +28,13 @@ impl Drop for Sound {
     }
 }
 
-/// A plan that breaks a rule of topology, with the fault; or one for which there was no memory.
+/// A plan that breaks a rule of topology, with the fault, and the earlier record that 403 or 405 speaks of, by its place
+/// from 0; or one for which there was no memory.
 #[derive(Drop)]
 pub struct Unsound {
     pub plan: Plan,
     pub fault: TopoFault,
+    pub earlier: Option<u64>,
 }
 
 impl Model for Sound {
@@ -52,6 +54,7 @@ impl Model for Sound {
 }
 
 impl Sound {
+    ghost use Rattle.edi_topo.specs.EarlierRecords.{IsEarlierRecordIfAny};
     ghost use Rattle.edi_topo.specs.TopologyRules.{BreaksTopologyRule};
     ghost use Rattle.edi_plan.specs.Joined.{IsJoined};
     ghost use Rattle.edi_plan.specs.Whole.{IsWholePlan};
@@ -66,32 +69,43 @@ impl Sound {
     {
         match Sound::check_or_return(alloc, plan) {
             Ok(sound) => Ok(sound),
-            Err(Unsound { plan: _, fault }) => Err(fault),
+            Err(Unsound { fault, .. }) => Err(fault),
         }
     }
 
-    /// What `check` gives, and beside a fault the plan.
+    /// What `check` gives, and beside a fault the plan, and beside 403 and 405 the first node that the refused one is equal
+    /// to and the first arc with its points.
     pub fn check_or_return(alloc: Global, plan: Plan) -> Result<Sound, Unsound>
         ensures plan { IfOk result (λ s. s ≡ plan) }
         ensures sound { OnOk result (IsUnbroken (BreaksTopologyRule plan)) }
         ensures least { IfErr result (λ u. IsRecordRefusal (BreaksTopologyRule plan) u.fault) }
         ensures returned { IfErr result (λ u. u.plan ≡ plan) }
+        ensures earlier { IfErr result (λ u. IsEarlierRecordIfAny plan u.fault u.earlier) }
     {
         plan.keeps();
         let findings = match RecordFindings::of(alloc, &plan) {
             Ok(findings) => findings,
             Err(error) => {
                 let fault = TopoFault::Memory(error);
-                return Err(Unsound { plan, fault });
+                return Err(Unsound {
+                    plan,
+                    fault,
+                    earlier: None,
+                });
             }
         };
         match first_broken(&plan, &findings) {
             Some((rule, place)) => {
+                let earlier = earlier_of(&findings, rule);
                 let fault = TopoFault::Broken {
                     rule,
                     at: u64::from(place) + 1,
                 };
-                Err(Unsound { plan, fault })
+                Err(Unsound {
+                    plan,
+                    fault,
+                    earlier,
+                })
             }
             None => Ok(Sound::of(plan, findings)),
         }

@@ -1,13 +1,15 @@
 -- The rules of topology at one record.
-use Rattle.std.specs.Prelude.{◌≡◌, ℕ, suc, ◌≤◌, IfOk, Option, MatchOption, Some}
-use Rattle.std.specs.Result.{result_err}
+use Rattle.std.specs.Prelude.{◌≡◌, ℕ, suc, ◌≤◌, IfOk, IfErr, Option, MatchOption, Some}
+use Rattle.edi_plan.specs.EarlierLinks.{IsLeast}
 use Rattle.edi_plan.specs.Plans.{PlanData}
+use Rattle.edi_topo.specs.EarlierRecords.{IsEqualNode, SharesPoints}
 use Rattle.edi_topo.specs.TopologyRules.{BreaksTopologyRule}
 use Rattle.edi_topo.specs.inner.Faces.{AreFaced}
 use Rattle.edi_topo.specs.NodeKeys.{IsNodeRanking}
 use Rattle.edi_topo.specs.inner.Nodes as Nodes
 use Rattle.edi_topo.specs.Arcs.{IsForwardRanking}
 use Rattle.edi_topo.specs.inner.Arcs as Arcs
+use Rattle.edi_topo.specs.inner.Repeats.{repeat_place}
 use Rattle.edi_topo.specs.declared.at_record.RecordFindings.{RecordFindings}
 
 -- no rule is broken at the record of this place, from 0
@@ -27,16 +29,18 @@ IsLeastAtIfAny p place found = MatchOption found (IsUnbrokenAt p place) (IsLeast
 abbrev pub IsUpTo : Option ℕ → ℕ → Type 0
 IsUpTo found place = (k : ℕ) → found ≡ Some k → place ≤ k
 
--- what was found: the numbers of the nodes and of the arcs, or the first that repeats an earlier one, and which faces
--- are on a side
+-- what was found: the numbers of the nodes and of the arcs, or the first that repeats an earlier one and the first that
+-- it repeats, and which faces are on a side
 pub record AreRecordFindings (p : PlanData) (found : RecordFindings) : Type 0 where
   pub nodes : IfOk found.nodes (IsNodeRanking p)
-  pub node_repeat : Nodes.IsFirstRepeatedNodeIfAny p (result_err found.nodes)
+  pub node_repeat : Nodes.IsFirstRepeatedNodeIfAny p (repeat_place found.nodes)
+  pub node_earlier : IfErr found.nodes (λ r. IsLeast (IsEqualNode p r.place) r.earlier)
   pub arcs : IfOk found.arcs (IsForwardRanking p)
-  pub arc_repeat : Arcs.IsFirstRepeatedArcIfAny p (result_err found.arcs)
+  pub arc_repeat : Arcs.IsFirstRepeatedArcIfAny p (repeat_place found.arcs)
+  pub arc_earlier : IfErr found.arcs (λ r. IsLeast (SharesPoints p r.place) r.earlier)
   pub faced : AreFaced p found.faced.items
 
 -- the repeats aren't before this place
 pub record AreNotBefore (found : RecordFindings) (place : ℕ) : Type 0 where
-  pub node : IsUpTo (result_err found.nodes) place
-  pub arc : IsUpTo (result_err found.arcs) place
+  pub node : IsUpTo (repeat_place found.nodes) place
+  pub arc : IsUpTo (repeat_place found.arcs) place
