@@ -3,7 +3,7 @@ use Rattle.std.proofs.Common.{◌≡◌, ◌≢◌, ℕ, zero, suc, ◌+◌, ◌
 use Rattle.std.specs.List.{prefix_len}
 use Rattle.std.specs.Cmp.Lexicographic.{pointwise, unequal, same_text}
 use Rattle.std.proofs.lemmas.Bool.{le-leb, lt-leb, leb-true, eq-eqb, cases_eq}
-use Rattle.std.proofs.lemmas.List.{take-take, take-append-drop, drop-take, length-take-le}
+use Rattle.std.proofs.lemmas.List.{take-take, take-append-drop, drop-take, length-take-le, take_rest}
 use Rattle.std.proofs.lemmas.Simd.{trailing_mask_l, leading_from_mask_l, length-zip2}
 use lib.Dec.{leb-suc-suc}
 use lib.Count.{count_trailing_zeros, trailing_of_zero}
@@ -106,3 +106,18 @@ long_front len a b heads tails more most enough counted behind =
     let last : leb left tails ≡ pointwise nat_eq (take left (drop 6 a)) (take left (drop 6 b))
     = behind left few ∙ ap₂ (pointwise nat_eq) (last_bytes left a few) (last_bytes left b few) in
     last ∙ sym parts
+
+-- where both ends of two texts meet and the first bytes are equal, the last ones decide
+pub ends_decide : (n : ℕ) (xs ys : List ℕ) → length ys ≡ length xs → n ≤ length xs → length xs ≤ n + n → pointwise nat_eq (take n xs) (take n ys) ≡ true
+    → pointwise nat_eq (take n (drop (length xs - n) xs)) (take n (drop (length xs - n) ys)) ≡ pointwise nat_eq xs ys
+ends_decide n xs ys as_long enough all same =
+    let k : ℕ = length xs - n in
+    let few : k ≤ n = omega (arith, enough, all) in
+    let front : take n xs ≡ take n ys = same_text (take n xs) (take n ys) (sym same) in
+    let first : take k ys ≡ take k xs = sym (take-take k n ys few) ∙ ap (take k) (sym front) ∙ take-take k n xs few in
+    let last : take n (drop k xs) ≡ drop k xs = ap (λ m. take m (drop k xs)) (omega (arith, enough)) ∙ take_rest xs k in
+    let other : take n (drop k ys) ≡ drop k ys = ap (λ m. take m (drop k ys)) (omega (arith, enough, as_long)) ∙ take_rest ys k in
+    let parts : pointwise nat_eq xs ys ≡ pointwise nat_eq (drop k xs) (drop k ys)
+    = ap₂ (pointwise nat_eq) (sym (take-append-drop k xs)) (sym (take-append-drop k ys) ∙ ap (λ f. f ++ drop k ys) first)
+    ∙ pointwise_behind (take k xs) (drop k xs) (drop k ys) in
+    ap₂ (pointwise nat_eq) last other ∙ sym parts

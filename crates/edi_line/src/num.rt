@@ -242,6 +242,23 @@ fn push_point_text(text: &mut Vec<u8>, millionths: u64) -> Result<(), AllocError
     push_fraction(text, millionths)
 }
 
+/// The digit of a number that so many others stand behind, and the number that these spell. To divide by a number that is
+/// known takes a fraction of the time that it takes by any other.
+fn first_digit(number: u64, others: usize) -> (u64, u64)
+    requires { others ≤ 5 }
+    ensures digit { result.0 ≡ number / 10 ^ others }
+    ensures rest { result.1 ≡ number % 10 ^ others }
+{
+    match others {
+        0 => (number, 0),
+        1 => (number / 10, number % 10),
+        2 => (number / 100, number % 100),
+        3 => (number / 1_000, number % 1_000),
+        4 => (number / 10_000, number % 10_000),
+        _ => (number / 100_000, number % 100_000),
+    }
+}
+
 /// The digits of the millionths behind the point, as far as some are left.
 fn push_fraction(text: &mut Vec<u8>, millionths: u64) -> Result<(), AllocError>
     requires { millionths < 1000000 }
@@ -251,9 +268,9 @@ fn push_fraction(text: &mut Vec<u8>, millionths: u64) -> Result<(), AllocError>
     let mut places = 6;
     while rest != 0 {
         places -= 1;
-        let unit = power_of_ten(places);
-        text.push(b'0' + (rest / unit) as u8)?;
-        rest %= unit;
+        let (digit, behind) = first_digit(rest, places);
+        text.push(b'0' + digit as u8)?;
+        rest = behind;
     }
     Ok(())
 }

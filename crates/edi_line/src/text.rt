@@ -149,7 +149,7 @@ fn text_of_middle_length(alloc: Global, text: &[u8]) -> Result<Bytes, AllocError
 
 /// Copies a text by its first bytes and its last ones, so many, which may overlap. Copies of a known size take no call.
 #[inline(always)]
-fn copy_both_ends(bytes: &mut [u8], text: &[u8], size: usize)
+pub fn copy_both_ends(bytes: &mut [u8], text: &[u8], size: usize)
     requires enough { size ≤ length text.now }
     requires all { length text.now ≤ size + size }
     requires room { length text.now ≤ length bytes.old }

@@ -25,7 +25,7 @@ use crate::references::{References, Subset};
 use crate::sides::{note_link, without_links};
 use crate::spare_parts::SpareParts;
 use crate::targets::Target;
-use edi_line::{Num, Text};
+use edi_line::{Num, Text, same_bytes};
 use edi_record::{Attribute, End, Name, RecordRef, SheetRecords, Value};
 use edi_schema::{ClassFinder, ClassRef, Schema};
 use std::alloc::{AllocError, Global};
@@ -159,7 +159,8 @@ fn plan_ends(
 fn is_other(subset: &Subset, end: &End) -> bool
     ensures { result ≡ is_elsewhere subset.now end.now }
 {
-    end.lot() != subset.lot.as_slice() || end.subset() != subset.subset.as_slice()
+    !same_bytes(end.lot(), subset.lot.as_slice())
+        || !same_bytes(end.subset(), subset.subset.as_slice())
 }
 
 fn has_other(subset: &Subset, ends: &[End]) -> bool

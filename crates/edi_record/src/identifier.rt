@@ -6,7 +6,7 @@ ghost use Rattle.std.specs.Cmp.Lexicographic.{pointwise, nat_list_eq_equiv};
 ghost use Rattle.edi_record.specs.inner.Identifiers.{identifier_bytes, IsInRoom};
 
 use crate::long_texts::LongTexts;
-use edi_line::Text;
+use edi_line::{Text, copy_both_ends, same_bytes};
 use std::alloc::AllocError;
 use std::marker::Model;
 
@@ -86,7 +86,12 @@ fn inside(text: &[u8]) -> IdentifierBytes
     ensures room { IsInRoom result }
 {
     let mut bytes = [0; ROOM];
-    bytes[..text.len()].copy_from_slice(text);
+    match text.len() {
+        4..=7 => copy_both_ends(&mut bytes, text, 4),
+        8..=16 => copy_both_ends(&mut bytes, text, 8),
+        17..=ROOM => copy_both_ends(&mut bytes, text, 16),
+        _ => bytes[..text.len()].copy_from_slice(text),
+    }
     IdentifierBytes::Inside {
         len: text.len() as u8,
         bytes,
@@ -99,7 +104,7 @@ impl PartialEq for Identifier {
     ghost laws = { partial_equiv_from_equiv nat_list_eq_equiv };
 
     fn eq(&self, other: &Self) -> bool {
-        self.as_slice() == other.as_slice()
+        same_bytes(self.as_slice(), other.as_slice())
     }
 }
 

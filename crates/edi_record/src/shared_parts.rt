@@ -6,7 +6,7 @@ ghost use Rattle.edi_record.specs.Texts.{PointerText, shown};
 use crate::name::Name;
 use crate::read_pointer::ReadPointer;
 use crate::words::{LAST, SPREAD, first_word, last_word};
-use edi_line::Text;
+use edi_line::{Text, same_bytes};
 use std::alloc::{AllocError, Global};
 use std::marker::Model;
 use std::sync::Arc;
@@ -95,7 +95,7 @@ impl SharedPart for PointerStart {
     }
 
     fn is_of(&self, pointer: &ReadPointer<'_>) -> bool {
-        self.bytes.as_slice() == pointer.start()
+        same_bytes(self.bytes.as_slice(), pointer.start())
     }
 
     fn of(alloc: Global, pointer: &ReadPointer<'_>) -> Result<PointerStart, AllocError> {
@@ -117,7 +117,8 @@ impl SharedPart for Name {
     }
 
     fn is_of(&self, pointer: &ReadPointer<'_>) -> bool {
-        self.rid.as_slice() == pointer.parts.rid && self.rty.as_slice() == pointer.parts.rty
+        same_bytes(self.rid.as_slice(), pointer.parts.rid)
+            && same_bytes(self.rty.as_slice(), pointer.parts.rty)
     }
 
     fn of(alloc: Global, pointer: &ReadPointer<'_>) -> Result<Name, AllocError> {

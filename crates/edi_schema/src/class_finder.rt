@@ -10,12 +10,15 @@ use std::marker::Model;
 // How many places there are for what came behind a class, and for what came of identifiers that are alike.
 const PLACES: usize = 64;
 
-// How many bytes at the end of an identifier are looked at for its place.
-const LAST: usize = 8;
+// An odd number of 64 bits without a pattern, by which the bytes that choose a place are spread.
+const SPREAD: u64 = 0x9E37_79B9_7F4A_7C15;
+
+// How far the spread bytes are shifted, so that the number of a place is left.
+const SHIFT: u32 = 58;
 
 /// Finds the classes of names under a schema. The classes of a sheet's records mostly come in the same turn, so what
-/// came last behind the class before is looked at first; then what came last of the identifiers whose last bytes make the
-/// same number. In random order nearly each name was looked up by a hash before: a twelfth of the instructions of a check.
+/// came last behind the class before is looked at first; then what came last of the identifiers whose last bytes choose the
+/// same place. In random order nearly each name was looked up by a hash before: a twelfth of the instructions of a check.
 /// This decides where a class is looked for first, and never what is found. Contracts see the schema alone.
 #[derive(Drop)]
 pub struct ClassFinder<'a> {
@@ -83,14 +86,31 @@ impl<'a> ClassFinder<'a> {
     }
 }
 
-/// A place for an identifier by the number that its last bytes make.
+/// The bytes of a short text as one number.
+fn number_of(bytes: &[u8]) -> u64 {
+    let mut number: u64 = 0;
+    for byte in bytes {
+        number = number.wrapping_mul(256).wrapping_add(u64::from(*byte));
+    }
+    number
+}
+
+/// The last eight bytes of an identifier as one number; where it has fewer, its first four and its last four, which are
+/// read at once as those are.
+fn last_bytes(rid: &[u8]) -> u64 {
+    match rid {
+        [.., a, b, c, d, e, f, g, h] => u64::from_le_bytes([*a, *b, *c, *d, *e, *f, *g, *h]),
+        [a, b, c, d, ..] => match rid {
+            [.., e, f, g, h] => u64::from_le_bytes([*a, *b, *c, *d, *e, *f, *g, *h]),
+            _ => 0,
+        },
+        few => number_of(few),
+    }
+}
+
+/// A place for an identifier by its last bytes.
 fn place_alike(rid: &[u8]) -> usize
     ensures { result < 64 }
 {
-    let (_, last) = rid.split_at(rid.len().saturating_sub(LAST));
-    let mut number: usize = 0;
-    for byte in last {
-        number = number.wrapping_mul(31).wrapping_add(usize::from(*byte));
-    }
-    number % PLACES
+    (last_bytes(rid).wrapping_mul(SPREAD) >> SHIFT) as usize
 }

@@ -187,7 +187,12 @@ impl Schema {
         ensures within { result ≡ true → place < length self.now }
     {
         self.keeps();
-        (place as usize) < self.classes.len() && self.name(ClassRef::at(place)) == name
+        if self.classes.len() <= place as usize {
+            return false;
+        }
+        // Classes mostly differ in their identifiers, of which many have one type.
+        let known = self.name(ClassRef::at(place));
+        known.rid == name.rid && known.rty == name.rty
     }
 
     /// The type and the identifier of a class of this schema.
