@@ -13,7 +13,14 @@ ghost use Rattle.edi_write.specs.inner.ClassLines.{IsLineOfItsClass};
 ghost use Rattle.edi_write.specs.inner.Heads.{headed};
 ghost use Rattle.edi_write.specs.Layout.{attribute_zones, head_zones};
 ghost use Rattle.edi_write.specs.inner.Openings.{opening_of};
-ghost use Rattle.edi_write.specs.inner.Numbered.{arc_body, link_body, numbered_body, numbered_zones, ordered_tail};
+ghost use Rattle.edi_write.specs.inner.Numbered.{
+  arc_body,
+  link_body,
+  numbered_body,
+  numbered_zones,
+  ordered_attributes,
+  ordered_tail,
+};
 
 use crate::class_line::ClassLine;
 use crate::heads::{ATTRIBUTE_COUNT, END_COUNT, POINT_COUNT, ZoneHead};
@@ -50,17 +57,6 @@ fn zone_of_two() -> &'static [u8]
     ensures { result.now ≡ printed_zone (headed END_COUNT (decimal 2)) }
 {
     b"FTCSN01:2\r\n"
-}
-
-/// Writes the count of a record's attributes. Most records have none.
-fn write_attribute_count(page: &mut Page, count: usize) -> Result<(), AllocError>
-    ensures { OnOk result (page.new.file.items
-        ≡ page.old.file.items ++ printed_zone (headed ATTRIBUTE_COUNT (decimal count))) }
-{
-    if count == 0 {
-        return page.file.extend_from_slice(zone_of_none());
-    }
-    write_number(page, ATTRIBUTE_COUNT, count)
 }
 
 /// Writes the count of a link's ends. Nearly each link has two.
@@ -105,6 +101,22 @@ fn write_attributes(
         write_attribute(page, schema, attribute)?;
     }
     Ok(())
+}
+
+/// Writes the count of a record's attributes, and these in their order.
+fn write_in_order(
+    alloc: Global,
+    page: &mut Page,
+    schema: &Schema,
+    attributes: &[PlanAttribute],
+) -> Result<(), AllocError>
+    requires { AllByRecursion (AttributeAgrees schema.now) attributes.now }
+    ensures { OnOk result (page.new.file.items
+        ≡ page.old.file.items ++ printed (ordered_attributes schema.now attributes.now)) }
+{
+    let sorted = sorted_attributes(alloc, attributes)?;
+    write_number(page, ATTRIBUTE_COUNT, sorted.len())?;
+    write_attributes(page, schema, &sorted)
 }
 
 fn write_extras(page: &mut Page, extras: &[Extra]) -> Result<(), AllocError>
@@ -182,9 +194,13 @@ impl<'a> LabelledPlan<'a> {
         ensures { OnOk result (page.new.file.items
             ≡ page.old.file.items ++ printed (ordered_tail self.now.classes (record_at self.now.plan place))) }
     {
-        let attributes = sorted_attributes(alloc, self.plan.attributes(place))?;
-        write_attribute_count(page, attributes.len())?;
-        write_attributes(page, self.schema, &attributes)?;
+        let attributes = self.plan.attributes(place);
+        // Most records have none. The zone of their count is copied, and no list of them in order is made.
+        if attributes.is_empty() {
+            page.file.extend_from_slice(zone_of_none())?;
+        } else {
+            write_in_order(alloc, page, self.schema, attributes)?;
+        }
         write_extras(page, self.plan.extras(place))
     }
 

@@ -12,6 +12,7 @@ use Rattle.edi_schema.specs.Classes.{Classes}
 use Rattle.edi_schema.specs.Sorted.{sort_by}
 use Rattle.edi_plan.specs.Orders.{attribute_cmp}
 use Rattle.edi_plan.specs.Plans.{PlanData, record_at}
+use Rattle.edi_plan.specs.declared.record.PlanAttribute.{PlanAttribute}
 use Rattle.edi_plan.specs.declared.record.PlanRecord.{PlanRecord}
 use Rattle.edi_plan.specs.declared.record.PlanEnd.{PlanEnd}
 use Rattle.edi_rank.specs.Arranged.{arranged_record}
@@ -51,10 +52,15 @@ numbered_body l p place Pfe = []
 numbered_body l p place Fea = []
 numbered_body l p place Lnk = link_body l p (record_at p place).ends
 
+-- the count of attributes, and these in order
+abbrev pub ordered_attributes : Classes → List PlanAttribute → List ZoneData
+ordered_attributes s attributes =
+    zone_headed (codes "ATCSN") (decimal (length (sort_by attribute_cmp attributes)))
+    ∷ flat_map (attribute_zones s) (sort_by attribute_cmp attributes)
+
 -- the attributes in order, and the extra zones
 abbrev pub ordered_tail : Classes → PlanRecord → List ZoneData
-ordered_tail s r = zone_headed (codes "ATCSN") (decimal (length (sort_by attribute_cmp r.attributes)))
-    ∷ (flat_map (attribute_zones s) (sort_by attribute_cmp r.attributes) ++ map extra_zone r.extras)
+ordered_tail s r = ordered_attributes s r.attributes ++ map extra_zone r.extras
 
 -- the zones of the record at a place, with its number and those of its ends
 abbrev pub numbered_zones : Classes → Labelling → PlanData → ℕ → List ZoneData
