@@ -8,7 +8,7 @@ use Rattle.edi_line.specs.Printing.{line_text, content_text, printed_zone}
 use Rattle.edi_write.specs.Layout.{identifier, kind_letter}
 use Rattle.edi_write.specs.declared.heads.TheConstants.{END_TARGET, IDENTIFIER}
 use Rattle.edi_write.specs.declared.heads.ZoneHead.{ZoneHead}
-use Rattle.edi_write.specs.inner.Heads.{headed, line_begun}
+use Rattle.edi_write.specs.inner.Heads.{headed, line_begun, with_length}
 use Rattle.edi_write.specs.inner.Numbered.{numbered_name, pointer_begun}
 use Rattle.edi_write.proofs.Breaking.{printed_short}
 
@@ -58,10 +58,6 @@ pointer_is Par number = refl
 pointer_is Pfe number = refl
 pointer_is Fea number = refl
 pointer_is Lnk number = refl
-
--- a line without the digits of its length, into which these are put
-abbrev pub with_length : List ℕ → ℕ → List ℕ
-with_length front len = set (set front 5 (48 + len / 10)) 6 (48 + len % 10)
 
 pub identifier_written : (out front digits : List ℕ) (kind : Kind) (number len : ℕ) → front ≡ line_begun IDENTIFIER (kind_letter kind) → digits ≡ decimal number → len ≡ 1 + length digits → length digits ≤ 40
     → out ++ (with_length front len ++ (digits ++ 13 ∷ 10 ∷ [])) ≡ out ++ printed_zone (headed IDENTIFIER (identifier kind number))

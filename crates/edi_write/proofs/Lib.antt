@@ -4,6 +4,7 @@ pub mod ThreeBytes
 pub mod Putting
 pub mod Breaking
 pub mod Joined
+pub mod Points
 pub mod Agreed
 pub mod LaidOut
 pub mod EndsWritten

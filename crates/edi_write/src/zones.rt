@@ -1,14 +1,17 @@
 //! The bytes of zones.
 
-ghost use Rattle.std.specs.Prelude.{◌≡◌, ℕ, List, ◌+◌, ◌<◌, ◌++◌, length, OnOk, IfOk};
+ghost use Rattle.std.specs.Prelude.{◌≡◌, ℕ, List, ◌+◌, ◌<◌, ◌≤◌, ◌++◌, drop, length, take, OnOk, IfOk};
 ghost use Rattle.edi_line.specs.Printing.{line_text, printed_zone, zone_text};
-ghost use Rattle.edi_write.specs.inner.Heads.{headed};
+ghost use Rattle.edi_write.specs.inner.Heads.{headed, measured};
 
 use crate::heads::{NEXT, ZoneHead};
 use std::alloc::AllocError;
 
 /// How many bytes of a value a line has at most.
 const LINE_ROOM: usize = 72;
+
+/// How many bytes stand before the value of a line.
+const LINE_FRONT: usize = 8;
 
 /// Writes a line at the end.
 fn write_line(out: &mut Vec<u8>, head: ZoneHead, value: &[u8]) -> Result<(), AllocError>
@@ -30,6 +33,17 @@ fn write_line(out: &mut Vec<u8>, head: ZoneHead, value: &[u8]) -> Result<(), All
     out.extend_from_slice(&front)?;
     out.extend_from_slice(value)?;
     out.extend_from_slice(b"\r\n")
+}
+
+/// Puts the digits of the length of its value into the line from a place to the end.
+pub(crate) fn put_length(out: &mut Vec<u8>, start: usize)
+    requires begun { start + 8 ≤ length out.old.items }
+    requires short { length out.old.items < start + 108 }
+    ensures { out.new.items ≡ take start out.old.items ++ measured (drop start out.old.items) }
+{
+    let len = (out.len() - start - LINE_FRONT) as u8;
+    out[start + 5] = b'0' + len / 10;
+    out[start + 6] = b'0' + len % 10;
 }
 
 /// Writes a zone at the end, in lines of at most 72 bytes of its value.
