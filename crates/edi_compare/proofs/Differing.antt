@@ -1,19 +1,14 @@
 -- The first line in which two files differ.
-use Rattle.std.proofs.Common.{◌≡◌, ◌≢◌, ℕ, zero, suc, ◌+◌, ◌<◌, ◌≤◌, ◌⊎◌, inl, inr, eqb, eq-eqb, cond, true, false, Bool, List, [], ◌∷◌, length, drop, get_or, min, Option, Some, None, refl, sym, ap, ◌∙◌, subst, arith}
+use Rattle.std.proofs.Common.{◌≡◌, ◌≢◌, ℕ, zero, suc, ◌+◌, ◌-◌, ◌<◌, ◌≤◌, ◌⊎◌, inl, inr, eqb, eq-eqb, cond, count_by, true, false, Bool, List, [], ◌∷◌, ◌++◌, length, drop, take, get_or, min, MatchOption, Option, Some, None, refl, sym, ap, ap₂, ◌∙◌, subst, arith}
 use Rattle.std.specs.List.{onto_first, slice_get}
 use Rattle.std.proofs.lemmas.Bool.{ne_eqb, cases_eq, cases_lt}
-use Rattle.std.proofs.lemmas.List.{drop_all}
-use Rattle.std.proofs.Math.Seq.{drop-cons}
+use Rattle.std.proofs.lemmas.List.{drop_all, take-append-drop}
+use Rattle.std.proofs.lemmas.List.Sums.{sum_by-cons}
+use Rattle.std.proofs.Math.Seq.{drop-cons, take-add}
 use Rattle.edi_line.specs.inner.Lines.{lines_in}
 use Rattle.edi_line.proofs.Cut.{lines_exist}
 use Rattle.edi_compare.specs.Verdicts.{IsFirstDifference}
-
--- the number of the first line in which they differ, where the first of their lines has this number
-abbrev pub differ_from : ℕ → List ℕ → List ℕ → Option ℕ
-differ_from line [] [] = None
-differ_from line [] (y ∷ ys) = Some line
-differ_from line (x ∷ xs) [] = Some line
-differ_from line (x ∷ xs) (y ∷ ys) = cond (eqb x y) (differ_from (cond (eqb x 10) (line + 1) line) xs ys) (Some line)
+use Rattle.edi_compare.specs.inner.Differing.{differ_from}
 
 -- the lines before this place are equal, and those at it aren't
 pub record DifferAt (lines others : List (List ℕ)) (place : ℕ) : Type 0 where
@@ -153,14 +148,36 @@ first_difference xs ys n e =
     line_read (x ∷ xs) (y ∷ ys) zero e = cc
     line_read (x ∷ xs) (y ∷ ys) (suc place) e = line_read xs ys place e
 
--- the bytes from a place on
+-- what is found, or not, is what the files are asked for
+pub answered : (xs ys : List ℕ) (line : Option ℕ) → line ≡ differ_from 1 xs ys → MatchOption line (xs ≡ ys) (IsFirstDifference xs ys)
+answered xs ys None e = none_found 1 xs ys (sym e)
+answered xs ys (Some line) e = first_difference xs ys line (sym e)
 
-pub differ_here : (line : ℕ) (xs ys : List ℕ) (i : ℕ) → i < length xs → i < length ys → get_or xs i 0 ≢ get_or ys i 0 → differ_from line (drop i xs) (drop i ys) ≡ Some line
-differ_here line xs ys i h g ne = rw (drop-cons xs i 0 h, drop-cons ys i 0 g, ne_eqb (get_or xs i 0) (get_or ys i 0) ne) refl
+-- behind a front that both have
 
-pub equal_end : (line : ℕ) (xs ys : List ℕ) (i : ℕ) → i ≡ min (length xs) (length ys) → length xs ≡ length ys → differ_from line (drop i xs) (drop i ys) ≡ None
-equal_end line xs ys i e same = rw (drop_all i xs (omega (arith, e, same)), drop_all i ys (omega (arith, e, same))) refl
+pub fronts_equal : (xs ys : List ℕ) (at end : ℕ) → at ≤ end → take at xs ≡ take at ys → take (end - at) (drop at xs) ≡ take (end - at) (drop at ys) → take end xs ≡ take end ys
+fronts_equal xs ys at end h front more =
+    let here : end ≡ at + (end - at) = omega (arith, h) in
+    subst (λ n. take n xs ≡ take n ys) (sym here) (take-add at (end - at) xs ∙ (ap₂ (λ (a b : List ℕ). a ++ b) front more ∙ sym (take-add at (end - at) ys)))
 
+differ_past : (line : ℕ) (front xs ys : List ℕ) → differ_from line (front ++ xs) (front ++ ys) ≡ differ_from (line + count_by (λ c. eqb c 10) front) xs ys
+differ_past line [] xs ys = ap (λ n. differ_from n xs ys) (omega arith)
+differ_past line (c ∷ cs) xs ys =
+    rw (sum_by-cons (λ c. cond (eqb c 10) 1 0) c cs, eq-eqb c c refl) (
+    differ_past (cond (eqb c 10) (line + 1) line) cs xs ys
+    ∙ ap (λ n. differ_from n xs ys) (counts (eqb c 10) (count_by (λ c. eqb c 10) cs)))
+  where
+    counts : (b : Bool) (more : ℕ) → cond b (line + 1) line + more ≡ line + (cond b 1 0 + more)
+    counts true more = omega arith
+    counts false more = omega arith
+
+pub behind_front : (xs ys : List ℕ) (front : ℕ) → take front xs ≡ take front ys
+    → differ_from (1 + count_by (λ c. eqb c 10) (take front xs)) (drop front xs) (drop front ys) ≡ differ_from 1 xs ys
+behind_front xs ys front same =
+    sym (differ_past 1 (take front xs) (drop front xs) (drop front ys))
+    ∙ ap₂ (λ (a b : List ℕ). differ_from 1 a b) (take-append-drop front xs) (ap (λ a. a ++ drop front ys) same ∙ take-append-drop front ys)
+
+-- where one ends before the other
 pub differ_end : (line : ℕ) (xs ys : List ℕ) (i : ℕ) → i ≡ min (length xs) (length ys) → length xs ≢ length ys → differ_from line (drop i xs) (drop i ys) ≡ Some line
 differ_end line xs ys i e other = go (cases_lt (length xs) (length ys))
   where
