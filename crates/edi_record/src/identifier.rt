@@ -79,7 +79,7 @@ impl Identifier {
     }
 }
 
-/// The bytes in the value itself.
+/// The bytes in the value itself. Those of most identifiers are copied by both ends, which takes no call.
 fn inside(text: &[u8]) -> IdentifierBytes
     requires { length text.now ≤ 30 }
     ensures value { identifier_bytes result ≡ text.now }

@@ -100,10 +100,10 @@ fn number_of(bytes: &[u8]) -> u64 {
 fn last_bytes(rid: &[u8]) -> u64 {
     match rid {
         [.., a, b, c, d, e, f, g, h] => u64::from_le_bytes([*a, *b, *c, *d, *e, *f, *g, *h]),
-        [a, b, c, d, ..] => match rid {
-            [.., e, f, g, h] => u64::from_le_bytes([*a, *b, *c, *d, *e, *f, *g, *h]),
-            _ => 0,
-        },
+        [a, b, c, d, ..] => {
+            let (_, last) = rid.split_at(rid.len() - 4);
+            u64::from_le_bytes([*a, *b, *c, *d, last[0], last[1], last[2], last[3]])
+        }
         few => number_of(few),
     }
 }
