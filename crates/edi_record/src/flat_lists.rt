@@ -80,13 +80,14 @@ pub(crate) fn append<T: Drop>(list: &mut Vec<T>, items: &mut Vec<T>)
     move_behind(list, items);
 }
 
-/// Empties a list. It is kept for later elements unless it has room for very many.
+/// Empties a list. It is kept for later elements unless it has room for very many. Most lists are empty already: their
+/// elements have been moved behind others.
 pub(crate) fn empty<T: Drop>(alloc: Global, list: &mut Vec<T>)
     ensures { list.new.items ≡ [] }
 {
     if list.capacity() > MOST_KEPT {
         *list = Vec::new(alloc);
-    } else {
+    } else if !list.is_empty() {
         list.clear();
     }
 }
