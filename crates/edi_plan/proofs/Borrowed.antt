@@ -1,9 +1,13 @@
 -- Lists of what is borrowed, in the order of what it is borrowed from.
-use Rattle.std.proofs.Common.{◌≡◌, ◌+◌, List, [], ◌∷◌, map, get_or, Ordering, is_lt, sym, ap, ap₂, ◌∙◌, subst, arith, IsPermutation, IsSorted}
+use Rattle.std.proofs.Common.{◌≡◌, ◌+◌, List, [], ◌∷◌, map, map-id, get_or, Option, Result, Ok, Err, IfOk, Ordering, is_lt, sym, ap, ap₂, ◌∙◌, subst, arith, IsPermutation, IsSorted}
 use Rattle.std.specs.Cmp.{IsTotalOrder}
+use Rattle.std.specs.Iterator.Runs.{WholeRun}
+use Rattle.std.specs.declared.vec.Vec.{Vec}
+use Rattle.std.proofs.lemmas.Iterator.{YieldsList}
 use Rattle.std.proofs.lemmas.List.{get_or-map, length-map}
 use Rattle.std.proofs.lemmas.List.Sorted.{IsPermutation-map}
 use Rattle.std.proofs.lemmas.Map.Lookups.{CmpEqualImpliesEq}
+use Rattle.itertools.proofs.AdaptorLemmas.{items_from_whole_run}
 use Rattle.edi_schema.specs.Sorted.{sort_by}
 use Rattle.edi_schema.proofs.SortedLists.{sorted_is}
 
@@ -19,3 +23,9 @@ module _ {X Y : Type 0} (f : X → Y) (cmp : Y → Y → Ordering) (total : IsTo
   pub sorted_borrowed : (ys : List Y) (xs zs : List X) → map f xs ≡ ys → IsPermutation xs zs → IsSorted below zs → map f zs ≡ sort_by cmp ys
   sorted_borrowed ys xs zs is permuted sorted =
       sorted_is cmp total exact ys (map f zs) (subst (λ es. IsPermutation es (map f zs)) is (IsPermutation-map f xs zs permuted)) (sorted_mapped zs sorted)
+
+-- what is collected is the list that the iterator yields
+pub collected_borrowed : {S X Y Z E : Type 0} {steps : S → Option X → S → Type 0} {s : S} {xs : List X} (f : X → Y) (ys : List Y) (r : Result (Vec X Z) E)
+    → YieldsList steps (λ x. x) s xs → map f xs ≡ ys → IfOk r (λ v. WholeRun steps s (λ p. v.items ≡ p.items)) → IfOk r (λ v. map f v.items ≡ ys)
+collected_borrowed f ys (Ok v) road is run = ap (map f) (run.3 ∙ (sym (map-id run.0.items) ∙ items_from_whole_run road run.0 run.1 run.2)) ∙ is
+collected_borrowed f ys (Err e) road is run = tt

@@ -19,7 +19,6 @@ pub fn sorted_attributes<'a>(
     if attributes.is_empty() {
         return Ok(Vec::new(alloc));
     }
-    let mut sorted = attributes.iter().collect_vec(alloc)?;
-    sorted.sort_unstable();
-    Ok(sorted)
+    let sorted = attributes.iter().sorted_unstable(alloc)?;
+    sorted.collect_vec(alloc)
 }
