@@ -12,3 +12,4 @@ pub mod AttributesTold
 pub mod NothingHidden
 pub mod NamedBehind
 pub mod Bounded
+pub mod Unbounded

@@ -1,11 +1,12 @@
 //! How many of the links that bound a face or an arc are gone, new or changed.
 
-ghost use Rattle.std.specs.Prelude.{◌≡◌, ℕ, IfOk, OnOk, ◌++◌, length, map, slice_index_or};
+ghost use Rattle.std.specs.Prelude.{◌≡◌, ℕ, false, IfOk, OnOk, ◌++◌, length, map, slice_index_or};
 ghost use Rattle.std.specs.List.{list_any, range_with_len};
 ghost use Rattle.edi_plan.specs.Plans.{IsPlace, record_at};
 ghost use Rattle.edi_plan.specs.Sides.{targets};
 ghost use Rattle.edi_objects.specs.Bounds.{bends, bounds_and, bounds_count, bounds_text, bounds_with, is_bent, is_lost, is_lost_by, outline_counts_by};
-ghost use Rattle.edi_objects.specs.Differing.{arrives, is_differing, is_initial_or_final, is_left_or_right};
+ghost use Rattle.edi_objects.specs.Differing.{arrives, bounds_type as bounds_type_of, is_differing, is_initial_or_final, is_left_or_right};
+ghost use Rattle.edi_schema.specs.declared.role.Role.{Role as Roles};
 ghost use Rattle.edi_objects.specs.LinksOf.{entries_of, index_of};
 ghost use Rattle.edi_objects.specs.inner.Sheets.{AreBoundCounts, AreNotes, AreTested, is_marked_place};
 
@@ -164,10 +165,25 @@ fn bounds_count(plan: &Plan, index: &[(u32, u32)], marks: &[bool], place: u32) -
     requires { index.now ≡ index_of plan.now }
     ensures { result ≡ bounds_count (is_marked_place marks.now) plan.now place }
 {
+    // Only arcs and faces have bounds. Most records are links, of which nothing is looked up.
+    if !is_bounded(plan, place) {
+        return 0;
+    }
     entries_of(index, place)
         .iter()
         .filter(|(_, link)| bounds_and(plan, marks, place, *link))
         .count()
+}
+
+/// Whether there is a record at a place that links can bound: an arc or a face.
+fn is_bounded(plan: &Plan, place: u32) -> bool
+    ensures { result ≡ false → (role : Roles) → bounds_type_of role (record_at plan.now place).kind ≡ false }
+{
+    place >= plan.len()
+        || match plan.kind(place) {
+            Kind::Par | Kind::Pfe => true,
+            Kind::Pno | Kind::Fea | Kind::Lnk => false,
+        }
 }
 
 /// Whether a link bounds a record, and is marked.

@@ -5,6 +5,7 @@ ghost use Rattle.edi_pairing.specs.inner.Taken.{HasTaken, titled_name};
 
 use crate::names::RecordName;
 use crate::wrong::kind_named;
+use edi_line::codes::RID;
 use edi_line::{GroupOut, Text, Zone};
 use edi_record::{Kind, RecordTitle};
 use std::alloc::{AllocError, Global};
@@ -48,7 +49,11 @@ impl GroupOut for TakenNames {
         self.title.begin(head)
     }
 
+    // Only an RID adds to what a record says of itself. To ask for it here spares a call for nearly each zone.
     fn take(&mut self, _alloc: Global, zone: &Zone<'_>) -> Result<(), AllocError> {
+        if zone.code != RID {
+            return Ok(());
+        }
         self.title.take(zone)
     }
 
