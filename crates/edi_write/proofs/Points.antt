@@ -12,7 +12,7 @@ use Rattle.edi_record.specs.CanonicalZones.{point_zone}
 use Rattle.edi_record.specs.Texts.{point_text}
 use Rattle.edi_record.specs.declared.record.Point.{Point}
 use Rattle.edi_write.specs.declared.heads.TheConstants.{COORDINATES}
-use Rattle.edi_write.specs.inner.Heads.{headed, line_begun, measured, with_length}
+use Rattle.edi_write.specs.inner.Heads.{headed, line_begun, with_own_length, with_length}
 use Rattle.edi_write.proofs.Breaking.{printed_short}
 
 -- ---- its text
@@ -39,7 +39,7 @@ signed_short (negsuc n) small = omega (arith, size_short (suc n) small)
 
 -- ---- its line
 
-digits_put : (text : List ℕ) → measured (line_begun COORDINATES text) ≡ content_text (headed COORDINATES text)
+digits_put : (text : List ℕ) → with_own_length (line_begun COORDINATES text) ≡ content_text (headed COORDINATES text)
 unfolding content_text
 digits_put text =
     let long : length (line_begun COORDINATES text) - 8 ≡ length text = omega arith in
@@ -48,7 +48,7 @@ digits_put text =
 -- a line that is begun in a file, with its length put in, and ended
 line_ended : (out text : List ℕ) → length text ≤ 72
     → (take (length out) (out ++ line_begun COORDINATES text)
-    ++ measured (drop (length out) (out ++ line_begun COORDINATES text))) ++ 13 ∷ 10 ∷ []
+    ++ with_own_length (drop (length out) (out ++ line_begun COORDINATES text))) ++ 13 ∷ 10 ∷ []
     ≡ out ++ printed_zone (headed COORDINATES text)
 unfolding line_text
 line_ended out text short =
@@ -59,7 +59,7 @@ line_ended out text short =
 
 pub point_written : (out file : List ℕ) (p : Point)
     → file ≡ (out ++ line_begun COORDINATES []) ++ point_text p → length (point_text p) ≤ 54
-    → (take (length out) file ++ measured (drop (length out) file)) ++ 13 ∷ 10 ∷ [] ≡ out ++ printed_zone (point_zone p)
+    → (take (length out) file ++ with_own_length (drop (length out) file)) ++ 13 ∷ 10 ∷ [] ≡ out ++ printed_zone (point_zone p)
 point_written out file p is short =
     rw (is ∙ append_assoc out (line_begun COORDINATES []) (point_text p))
     (line_ended out (point_text p) (omega (arith, short)))

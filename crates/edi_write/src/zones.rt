@@ -2,7 +2,7 @@
 
 ghost use Rattle.std.specs.Prelude.{◌≡◌, ℕ, List, ◌+◌, ◌<◌, ◌≤◌, ◌++◌, drop, length, take, OnOk, IfOk};
 ghost use Rattle.edi_line.specs.Printing.{line_text, printed_zone, zone_text};
-ghost use Rattle.edi_write.specs.inner.Heads.{headed, measured};
+ghost use Rattle.edi_write.specs.inner.Heads.{headed, with_own_length};
 
 use crate::heads::{NEXT, ZoneHead};
 use std::alloc::AllocError;
@@ -39,7 +39,7 @@ fn write_line(out: &mut Vec<u8>, head: ZoneHead, value: &[u8]) -> Result<(), All
 pub(crate) fn put_length(out: &mut Vec<u8>, start: usize)
     requires begun { start + 8 ≤ length out.old.items }
     requires short { length out.old.items < start + 108 }
-    ensures { out.new.items ≡ take start out.old.items ++ measured (drop start out.old.items) }
+    ensures { out.new.items ≡ take start out.old.items ++ with_own_length (drop start out.old.items) }
 {
     let len = (out.len() - start - LINE_FRONT) as u8;
     out[start + 5] = b'0' + len / 10;

@@ -16,5 +16,5 @@ abbrev pub with_length : List ℕ → ℕ → List ℕ
 with_length line len = set (set line 5 (48 + len / 10)) 6 (48 + len % 10)
 
 -- a line with the digits of the length of its value put in
-abbrev pub measured : List ℕ → List ℕ
-measured line = with_length line (length line - 8)
+abbrev pub with_own_length : List ℕ → List ℕ
+with_own_length line = with_length line (length line - 8)
