@@ -242,8 +242,8 @@ fn push_point_text(text: &mut Vec<u8>, millionths: u64) -> Result<(), AllocError
     push_fraction(text, millionths)
 }
 
-/// The digit of a number that so many others stand behind, and the number that these spell. To divide by a number that is
-/// known takes a fraction of the time that it takes by any other.
+/// The digit of a number that so many others stand behind, and the number that these spell. To divide by a number that
+/// is known takes a fraction of the time that it takes by any other.
 fn first_digit(number: u64, others: usize) -> (u64, u64)
     requires { others ≤ 5 }
     ensures digit { result.0 ≡ number / 10 ^ others }

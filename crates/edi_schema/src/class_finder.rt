@@ -17,9 +17,9 @@ const SPREAD: u64 = 0x9E37_79B9_7F4A_7C15;
 const SHIFT: u32 = 58;
 
 /// Finds the classes of names under a schema. The classes of a sheet's records mostly come in the same turn, so what
-/// came last behind the class before is looked at first; then what came last of the identifiers whose last bytes choose the
-/// same place. In random order nearly each name was looked up by a hash before: a twelfth of the instructions of a check.
-/// This decides where a class is looked for first, and never what is found. Contracts see the schema alone.
+/// came last behind the class before is looked at first; then what came last of the identifiers whose last bytes choose
+/// the same place. In random order nearly each name was looked up by a hash before: a twelfth of the instructions of a
+/// check. This decides where a class is looked for first, and never what is found. Contracts see the schema alone.
 #[derive(Drop)]
 pub struct ClassFinder<'a> {
     schema: &'a Schema,

@@ -84,8 +84,8 @@ impl<'a> Layer for ArcLayer<'a> {
     }
 }
 
-/// The numbers of the arcs, in file order; or the first with the points of an earlier one, in either direction, with the
-/// first that has them.
+/// The numbers of the arcs, in file order; or the first with the points of an earlier one, in either direction, with
+/// the first that has them.
 pub(crate) fn ranks_or_repeat(
     alloc: Global,
     plan: &Plan,

@@ -23,8 +23,8 @@ use edi_plan::Plan;
 use edi_record::Kind;
 use std::alloc::{AllocError, Global};
 
-/// What is looked up at each record: the numbers of the nodes and of the arcs, or the first that repeats an earlier one,
-/// with that; and which records are on a side of an arc.
+/// What is looked up at each record: the numbers of the nodes and of the arcs, or the first that repeats an earlier
+/// one, with that; and which records are on a side of an arc.
 #[derive(Drop)]
 pub(crate) struct RecordFindings {
     pub(crate) nodes: Result<Ranks, Repeat>,
@@ -156,8 +156,8 @@ pub(crate) fn first_broken(plan: &Plan, findings: &RecordFindings) -> Option<(u1
     None
 }
 
-/// The first record that a rule speaks of where it is the first broken: 403 of an equal node, 405 of an arc with the same
-/// points, the others of none.
+/// The first record that a rule speaks of where it is the first broken: 403 of an equal node, 405 of an arc with the
+/// same points, the others of none.
 pub(crate) fn earlier_of(findings: &RecordFindings, rule: u16) -> Option<u64>
     ensures { (p : PlanData) (at : ℕ) → AreRecordFindings p findings.now
         → IsLeastBroken (BreaksTopologyRule p) rule at → IsEarlierByRule p rule (at - 1) result }

@@ -86,8 +86,8 @@ impl<'a> Layer for NodeLayer<'a> {
     }
 }
 
-/// The numbers of the nodes, in file order; or the first that is equal to an earlier one, with the first that it is equal
-/// to.
+/// The numbers of the nodes, in file order; or the first that is equal to an earlier one, with the first that it is
+/// equal to.
 pub(crate) fn ranks_or_repeat(
     alloc: Global,
     plan: &Plan,

@@ -28,8 +28,8 @@ impl Drop for Sound {
     }
 }
 
-/// A plan that breaks a rule of topology, with the fault, and the earlier record that 403 or 405 speaks of, by its place
-/// from 0; or one for which there was no memory.
+/// A plan that breaks a rule of topology, with the fault, and the earlier record that 403 or 405 speaks of, by its
+/// place from 0; or one for which there was no memory.
 #[derive(Drop)]
 pub struct Unsound {
     pub plan: Plan,
@@ -73,8 +73,8 @@ impl Sound {
         }
     }
 
-    /// What `check` gives, and beside a fault the plan, and beside 403 and 405 the first node that the refused one is equal
-    /// to and the first arc with its points.
+    /// What `check` gives, and beside a fault the plan, and beside 403 and 405 the first node that the refused one is
+    /// equal to and the first arc with its points.
     pub fn check_or_return(alloc: Global, plan: Plan) -> Result<Sound, Unsound>
         ensures plan { IfOk result (λ s. s ≡ plan) }
         ensures sound { OnOk result (IsUnbroken (BreaksTopologyRule plan)) }
