@@ -20,8 +20,8 @@ def parts(other):
     return [
         ("million", "Time and memory of a million records", [*parity, "--records", "1000000"]),
         ("millions", "Of three million", [*parity, "--records", "3000000", "--rounds", "3", "in file order", "in random order"]),
-        ("hundred", "Of a hundred thousand", [*parity, "--rounds", "9"]),
-        ("ten", "Of ten thousand", [*parity, "--records", "10000", "--rounds", "25"]),
+        ("hundred", "Of a hundred thousand", [*parity, "--rounds", "15"]),
+        ("ten", "Of ten thousand", [*parity, "--records", "10000", "--rounds", "60"]),
         ("instructions", "Instructions", [*parity, "--instructions", "--records", "30000"]),
         ("phases", "Phases", [*parity, "--phases"]),
         ("beside", "Beside `check` and `compare`", ["beside.py"]),
