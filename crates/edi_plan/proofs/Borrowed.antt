@@ -1,7 +1,7 @@
 -- Lists of what is borrowed, in the order of what it is borrowed from.
 use Rattle.std.proofs.Common.{◌≡◌, ◌+◌, List, [], ◌∷◌, map, map-id, get_or, Option, Result, Ok, Err, IfOk, Ordering, is_lt, sym, ap, ap₂, ◌∙◌, subst, arith, IsPermutation, IsSorted}
 use Rattle.std.specs.Cmp.{IsTotalOrder}
-use Rattle.std.specs.Iterator.Runs.{WholeRun}
+use Rattle.std.specs.Iterator.Runs.{Run, WholeRun}
 use Rattle.std.specs.declared.vec.Vec.{Vec}
 use Rattle.std.proofs.lemmas.Iterator.{YieldsList}
 use Rattle.std.proofs.lemmas.List.{get_or-map, length-map}
@@ -24,8 +24,13 @@ module _ {X Y : Type 0} (f : X → Y) (cmp : Y → Y → Ordering) (total : IsTo
   sorted_borrowed ys xs zs is permuted sorted =
       sorted_is cmp total exact ys (map f zs) (subst (λ es. IsPermutation es (map f zs)) is (IsPermutation-map f xs zs permuted)) (sorted_mapped zs sorted)
 
--- what is collected is the list that the iterator yields
-pub collected_borrowed : {S X Y Z E : Type 0} {steps : S → Option X → S → Type 0} {s : S} {xs : List X} (f : X → Y) (ys : List Y) (r : Result (Vec X Z) E)
-    → YieldsList steps (λ x. x) s xs → map f xs ≡ ys → IfOk r (λ v. WholeRun steps s (λ p. v.items ≡ p.items)) → IfOk r (λ v. map f v.items ≡ ys)
-collected_borrowed f ys (Ok v) road is run = ap (map f) (run.3 ∙ (sym (map-id run.0.items) ∙ items_from_whole_run road run.0 run.1 run.2)) ∙ is
-collected_borrowed f ys (Err e) road is run = tt
+-- the items of a whole run, as they are read
+pub items_of : {S X Y : Type 0} {steps : S → Option X → S → Type 0} {f : X → Y} {s : S} {ys : List Y} {P : Run steps → Type 0}
+    → (run : WholeRun steps s P) → YieldsList steps f s ys → map f run.0.items ≡ ys
+items_of run road = items_from_whole_run road run.0 run.1 run.2
+
+-- what is collected, as it is read, is the list that the iterator yields
+pub collected_as : {S X Y Z E : Type 0} {steps : S → Option X → S → Type 0} {f : X → Y} {s : S} {ys : List Y} (zs : List Y) (r : Result (Vec X Z) E)
+    → IfOk r (λ v. WholeRun steps s (λ p. v.items ≡ p.items)) → YieldsList steps f s ys → ys ≡ zs → IfOk r (λ v. map f v.items ≡ zs)
+collected_as {f = f} zs (Ok v) run road is = ap (map f) run.3 ∙ (items_of run road ∙ is)
+collected_as zs (Err e) run road is = tt

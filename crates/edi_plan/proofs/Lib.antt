@@ -1,3 +1,4 @@
+pub mod AttributeFronts
 pub mod Built
 pub mod RecordLists
 pub mod Orders

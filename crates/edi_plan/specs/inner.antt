@@ -1,3 +1,4 @@
+pub mod AttributeFronts
 pub mod RecordLists
 pub mod Planned
 pub mod Done

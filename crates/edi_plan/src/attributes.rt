@@ -4,6 +4,7 @@ ghost use Rattle.std.specs.Prelude.{◌≡◌, map, IfOk};
 ghost use Rattle.edi_schema.specs.Sorted.{sort_by};
 ghost use Rattle.edi_plan.specs.Orders.{attribute_cmp};
 
+use crate::attribute_keys::AttributeKey;
 use crate::record::PlanAttribute;
 use itertools::Itertools;
 use std::alloc::{AllocError, Global};
@@ -19,6 +20,9 @@ pub fn sorted_attributes<'a>(
     if attributes.is_empty() {
         return Ok(Vec::new(alloc));
     }
-    let sorted = attributes.iter().sorted_unstable(alloc)?;
-    sorted.collect_vec(alloc)
+    let keys = attributes
+        .iter()
+        .map(|attribute| AttributeKey::of(attribute));
+    let sorted = keys.sorted_unstable(alloc)?;
+    sorted.map(|key| key.attribute()).collect_vec(alloc)
 }

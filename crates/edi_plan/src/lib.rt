@@ -2,6 +2,7 @@
 #![tactic(auto)]
 
 mod arc_sides;
+mod attribute_keys;
 pub mod attributes;
 mod earlier_links;
 pub mod extent;
