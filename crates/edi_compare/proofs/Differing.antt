@@ -2,9 +2,9 @@
 use Rattle.std.proofs.Common.{◌≡◌, ◌≢◌, ℕ, zero, suc, ◌+◌, ◌-◌, ◌<◌, ◌≤◌, ◌⊎◌, inl, inr, eqb, eq-eqb, cond, count_by, true, false, Bool, List, [], ◌∷◌, ◌++◌, length, drop, take, get_or, min, MatchOption, Option, Some, None, refl, sym, ap, ap₂, ◌∙◌, subst, arith}
 use Rattle.std.specs.List.{onto_first, slice_get}
 use Rattle.std.proofs.lemmas.Bool.{ne_eqb, cases_eq, cases_lt}
-use Rattle.std.proofs.lemmas.List.{drop_all, take-append-drop}
+use Rattle.std.proofs.lemmas.List.{drop_all, drop-drop, length-take-le, take-append-drop}
 use Rattle.std.proofs.lemmas.List.Sums.{sum_by-cons}
-use Rattle.std.proofs.Math.Seq.{drop-cons, take-add}
+use Rattle.std.proofs.Math.Seq.{drop-append-add, drop-cons, take-add, take-append-add}
 use Rattle.edi_line.specs.inner.Lines.{lines_in}
 use Rattle.edi_line.proofs.Cut.{lines_exist}
 use Rattle.edi_compare.specs.Verdicts.{IsFirstDifference}
@@ -186,3 +186,28 @@ differ_end line xs ys i e other = go (cases_lt (length xs) (length ys))
     go (inr more) =
         let long : length ys < length xs = omega (arith, more, other) in
         rw (drop-cons xs i 0 (omega (arith, e, long)), drop_all i ys (omega (arith, e, long))) refl
+
+-- where the second file is a front of the first one and a rest
+
+module _ (xs rest : List ℕ) (front : ℕ) (within : front ≤ length xs) where
+  abbrev ys : List ℕ
+  ys = take front xs ++ rest
+
+  shared : length (take front xs) ≡ front
+  shared = length-take-le front xs within
+
+  same_fronts : (more : ℕ) → take more (drop front xs) ≡ take more rest → take (front + more) xs ≡ take (front + more) ys
+  same_fronts more same =
+      take-add front more xs ∙ (ap (λ zs. take front xs ++ zs) same
+      ∙ sym (ap (λ n. take (n + more) ys) (sym shared) ∙ take-append-add (take front xs) rest more))
+
+  pub answered_behind : (more : ℕ) (line : Option ℕ) → take more (drop front xs) ≡ take more rest
+      → line ≡ differ_from (1 + count_by (λ c. eqb c 10) (take (front + more) xs)) (drop more (drop front xs)) (drop more rest) → MatchOption line (xs ≡ ys) (IsFirstDifference xs ys)
+  answered_behind more line same e =
+      let behind : drop (front + more) ys ≡ drop more rest = ap (λ n. drop (n + more) ys) (sym shared) ∙ drop-append-add (take front xs) rest more in
+      answered xs ys line
+      (e ∙ (ap₂ (λ (a b : List ℕ). differ_from (1 + count_by (λ c. eqb c 10) (take (front + more) xs)) a b) (drop-drop more front xs) (sym behind)
+      ∙ behind_front xs ys (front + more) (same_fronts more same)))
+
+  pub none_behind : drop front xs ≡ rest → xs ≡ ys
+  none_behind same = sym (take-append-drop front xs) ∙ ap (λ zs. take front xs ++ zs) same

@@ -1,5 +1,6 @@
 -- The layout of an accepted sheet is canonical and states the plan of the sheet.
-use Rattle.std.proofs.Common.{◌≡◌, ◌∙◌, sym, subst, refl, ℕ, ◌<◌, ◌≤◌, ◌^◌, List, map, length, arith}
+use Rattle.std.proofs.Common.{◌≡◌, ◌∙◌, sym, ap, subst, refl, ℕ, ◌<◌, ◌≤◌, ◌^◌, List, ◌++◌, map, length, take, arith}
+use Rattle.std.proofs.lemmas.List.Elements.{All-append, All-take}
 use Rattle.edi_line.specs.Refusal.{IsUnbroken}
 use Rattle.edi_record.specs.RecordLayout.{settled_record}
 use Rattle.edi_record.specs.RecordLayout as records
@@ -168,6 +169,14 @@ plan_form s p l c keeps bytes held labels laid_out = record {
   where
     layout_of : IsLayoutOf s held.0 c
     layout_of = record { plan = p; labels = l; accepted = held.2; states = held.3; are_labels = labels; laid_out = laid_out }
+
+-- which may be given as a front of another file and the rest, each read on its own
+pub form_behind : (s : Classes) (p : PlanData) (l : Labelling) (c rest shown seen seen' : List ℕ) (front : ℕ) → IsSchema s → shown ≡ c → seen ≡ c → seen' ≡ rest → IsBytes seen → IsBytes seen' → IsHeldPlan s p
+    → AreLabels s p l → take front shown ++ rest ≡ layout s (arranged s l p) → IsPlanForm s p l (take front c ++ rest)
+form_behind s p l c rest shown seen seen' front keeps e f g bytes bytes' held labels laid_out =
+    plan_form s p l (take front c ++ rest) keeps
+    (All-append (λ c. c < 256) (take front c) rest (All-take (λ c. c < 256) front c (subst IsBytes f bytes)) (subst IsBytes g bytes')) held labels
+    (ap (λ (x : List ℕ). take front x ++ rest) (sym e) ∙ laid_out)
 
 -- and what is stored of the sheet is its form
 pub has_form : (s : Classes) (b : List ℕ) (form : Form) → IsSchema s → length b < 2 ^ 64 → IsBytes form.file.items → IsAccepted s b → IsPlanOfFile s b form.labelled.sound

@@ -31,8 +31,8 @@ pub fn compare_accepted(
     ensures { IfOk result (IsPlanVerdict schema.now a.now b.now) }
 {
     let first = stored_form(alloc, schema, a)?;
-    let second = form_of_plan(alloc, schema, b)?;
-    verdict_of(alloc, schema, &first, &second.labels, &second.file)
+    let labels = labels_of(alloc, schema, b.sound())?;
+    verdict_of(alloc, schema, &first, b.sound(), &labels)
 }
 
 /// What is stored of an accepted sheet while the form of another is made.

@@ -1,6 +1,6 @@
 //! Where two files differ.
 
-ghost use Rattle.std.specs.Prelude.{◌≡◌, ◌+◌, ◌<◌, ◌==◌, ◌^◌, ◌≤◌, MatchOption, count_by, length, take};
+ghost use Rattle.std.specs.Prelude.{◌≡◌, ◌+◌, ◌++◌, ◌<◌, ◌==◌, ◌^◌, ◌≤◌, MatchOption, count_by, length, take};
 ghost use Rattle.edi_line.specs.Bytes.{line_feed};
 ghost use Rattle.edi_compare.specs.inner.Differing.{differ_from};
 ghost use Rattle.edi_compare.specs.Verdicts.{IsFirstDifference};
@@ -12,16 +12,19 @@ const STRIDE: usize = 64;
 const RUN: usize = 192;
 
 /// The number of the first line, from 1, in which two files differ or that one of them lacks; or `None` where they are
-/// equal.
-pub(crate) fn first_difference(first: &[u8], second: &[u8]) -> Option<u64>
-    ensures { MatchOption result (first.now ≡ second.now) (IsFirstDifference first.now second.now) }
+/// equal. Of the second file only what stands behind a front of so many bytes is given, which both have.
+pub(crate) fn first_difference(first: &[u8], front: usize, rest: &[u8]) -> Option<u64>
+    requires { front ≤ length first.now }
+    ensures { MatchOption result (first.now ≡ take front first.now ++ rest.now)
+        (IsFirstDifference first.now (take front first.now ++ rest.now)) }
 {
-    if first == second {
+    let ahead = &first[front..];
+    if ahead == rest {
         return None;
     }
-    let front = equal_front(first, second);
-    let line = 1 + newlines_in(&first[..front]);
-    difference_behind(line, &first[front..], &second[front..])
+    let more = equal_front(ahead, rest);
+    let line = 1 + newlines_in(&first[..front + more]);
+    difference_behind(line, &ahead[more..], &rest[more..])
 }
 
 /// A number of bytes at the front of two files that are equal. Whole runs of 64 bytes are compared at once, since

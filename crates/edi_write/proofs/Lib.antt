@@ -1,3 +1,4 @@
+pub mod SharedFronts
 pub mod Counts
 pub mod KindZones
 pub mod ThreeBytes

@@ -1,4 +1,5 @@
 -- What private contracts use, and the functions that proofs join to the relations.
+pub mod SharedFronts
 pub mod ClassLines
 pub mod Heads
 pub mod LabelledPlans

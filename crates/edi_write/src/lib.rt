@@ -12,8 +12,9 @@ mod openings;
 mod page;
 mod parts;
 mod records;
+mod shared_front;
 pub mod writing;
 mod zones;
 
-pub use canon::write_canon;
+pub use canon::{BehindFront, write_canon, write_canon_behind};
 pub use writing::{Written, put_all};

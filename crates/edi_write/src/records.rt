@@ -1,6 +1,6 @@
 //! The bytes of records.
 
-ghost use Rattle.std.specs.Prelude.{◌≡◌, length, ◌++◌, OnOk, decimal, flat_map, map, reverse};
+ghost use Rattle.std.specs.Prelude.{◌≡◌, ◌≤◌, length, ◌++◌, OnOk, decimal, flat_map, map, reverse};
 ghost use Rattle.std.specs.List.{AllByRecursion};
 ghost use Rattle.edi_line.specs.Printing.{printed, printed_zone};
 ghost use Rattle.edi_record.specs.CanonicalZones.{extra_zone, point_zone};
@@ -9,6 +9,7 @@ ghost use Rattle.edi_plan.specs.Plans.{IsPlace, record_at};
 ghost use Rattle.edi_rank.specs.Arranged.{arranged_record, old_places};
 ghost use Rattle.edi_rank.specs.EndOrder.{OthersInOrder};
 ghost use Rattle.edi_rank.specs.Labelling.{AreLabels, number_of, order_of};
+ghost use Rattle.edi_write.specs.inner.SharedFronts.{written};
 ghost use Rattle.edi_write.specs.inner.ClassLines.{IsLineOfItsClass};
 ghost use Rattle.edi_write.specs.inner.Heads.{headed};
 ghost use Rattle.edi_write.specs.Layout.{attribute_zones, head_zones};
@@ -30,6 +31,7 @@ use crate::names::{type_zone, write_identifier};
 use crate::openings::{BATCH, Opening};
 use crate::page::Page;
 use crate::parts::{write_attribute, write_extra, write_point};
+use crate::shared_front::SharedFront;
 use edi_plan::{PlanAttribute, sorted_attributes};
 use edi_record::{Extra, Kind, Point};
 use edi_schema::Schema;
@@ -246,10 +248,18 @@ impl<'a> LabelledPlan<'a> {
         Ok(())
     }
 
-    /// Writes the records at these places.
-    fn write_places(&self, alloc: Global, page: &mut Page, places: &[u32]) -> Result<(), AllocError>
-        requires { AllByRecursion (IsPlace self.now.plan) places.now }
-        ensures { OnOk result (page.new.file.items ≡ page.old.file.items
+    /// Writes the records at these places. What the other file has too is dropped batch by batch.
+    fn write_places(
+        &self,
+        alloc: Global,
+        file: &mut SharedFront<'_>,
+        places: &[u32],
+    ) -> Result<(), AllocError>
+        requires places { AllByRecursion (IsPlace self.now.plan) places.now }
+        requires within { file.old.front ≤ length file.old.other.now }
+        ensures other { OnOk result (file.new.other.now ≡ file.old.other.now) }
+        ensures within { OnOk result (file.new.front ≤ length file.new.other.now) }
+        ensures written { OnOk result (written file.new ≡ written file.old
             ++ printed (flat_map (numbered_zones self.now.classes self.now.labels self.now.plan) places.now)) }
     {
         let mut line = ClassLine::new(alloc);
@@ -258,31 +268,47 @@ impl<'a> LabelledPlan<'a> {
         while !rest.is_empty() {
             let (batch, behind) = rest.split_at(rest.len().min(BATCH));
             self.look_up(batch, &mut openings)?;
-            self.write_opened(alloc, page, &mut line, &openings)?;
+            self.write_opened(alloc, &mut file.page, &mut line, &openings)?;
+            file.drop_shared();
             rest = behind;
         }
         Ok(())
     }
 
     /// Writes the records of a kind, by their numbers.
-    fn write_kind(&self, alloc: Global, page: &mut Page, kind: Kind) -> Result<(), AllocError>
-        ensures { OnOk result (page.new.file.items ≡ page.old.file.items
+    fn write_kind(
+        &self,
+        alloc: Global,
+        file: &mut SharedFront<'_>,
+        kind: Kind,
+    ) -> Result<(), AllocError>
+        requires within { file.old.front ≤ length file.old.other.now }
+        ensures other { OnOk result (file.new.other.now ≡ file.old.other.now) }
+        ensures within { OnOk result (file.new.front ≤ length file.new.other.now) }
+        ensures written { OnOk result (written file.new ≡ written file.old
             ++ printed (flat_map (numbered_zones self.now.classes self.now.labels self.now.plan)
             (order_of self.now.labels kind))) }
     {
-        self.write_places(alloc, page, self.labels.order(kind))
+        self.write_places(alloc, file, self.labels.order(kind))
     }
 
     /// Writes the records: nodes, arcs, faces, objects and links, each by their numbers.
-    pub(crate) fn write_records(&self, alloc: Global, page: &mut Page) -> Result<(), AllocError>
-        ensures { OnOk result (page.new.file.items ≡ page.old.file.items
+    pub(crate) fn write_records(
+        &self,
+        alloc: Global,
+        file: &mut SharedFront<'_>,
+    ) -> Result<(), AllocError>
+        requires within { file.old.front ≤ length file.old.other.now }
+        ensures other { OnOk result (file.new.other.now ≡ file.old.other.now) }
+        ensures within { OnOk result (file.new.front ≤ length file.new.other.now) }
+        ensures written { OnOk result (written file.new ≡ written file.old
             ++ printed (flat_map (numbered_zones self.now.classes self.now.labels self.now.plan)
             (old_places self.now.labels))) }
     {
-        self.write_kind(alloc, page, Kind::Pno)?;
-        self.write_kind(alloc, page, Kind::Par)?;
-        self.write_kind(alloc, page, Kind::Pfe)?;
-        self.write_kind(alloc, page, Kind::Fea)?;
-        self.write_kind(alloc, page, Kind::Lnk)
+        self.write_kind(alloc, file, Kind::Pno)?;
+        self.write_kind(alloc, file, Kind::Par)?;
+        self.write_kind(alloc, file, Kind::Pfe)?;
+        self.write_kind(alloc, file, Kind::Fea)?;
+        self.write_kind(alloc, file, Kind::Lnk)
     }
 }

@@ -19,10 +19,6 @@ pub record IsPlanForm (s : Classes) (p : PlanData) (l : Labelling) (c : List ℕ
   pub canonical : IsCanonical s c
   pub arranged_plan : IsPlanOfFile s c (arranged s l p)
 
--- the form of some plan
-abbrev pub IsFormOfSome : Classes → Labelling → List ℕ → Type 0
-IsFormOfSome s l c = (p : PlanData) × IsPlanForm s p l c
-
 -- The form of a sheet b: its plan, and the form of that plan, of which the file is that of the sheet.
 pub record HasForm (s : Classes) (b : List ℕ) (form : Form) : Type 0 where
   pub file : IsFormOf s b form.file.items

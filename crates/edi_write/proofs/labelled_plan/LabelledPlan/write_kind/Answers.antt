@@ -7,8 +7,8 @@ use Rattle.edi_write.specs.inner.LabelledPlans.{Labelled, AreItsLabels}
 use Rattle.edi_line.proofs.EachElement.{each_from_places}
 use Rattle.edi_write.proofs.labelled_plan.LabelledPlan.write_kind.Goals as goal
 
-pub write_places-requires : goal.write_places-requires
-write_places-requires c =
+pub write_places-requires-clause-places : goal.write_places-requires-clause-places
+write_places-requires-clause-places c =
     let own = subst AreItsLabels c.self.view_is c.self.invariant in
     let labels = own.labels in
     each_from_places (IsPlace c.args.self.now.plan) c.order.result.now 0 (λ i less.

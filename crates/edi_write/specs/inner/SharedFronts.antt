@@ -1,0 +1,7 @@
+-- A canonical file on its way, whose front another file shares.
+use Rattle.std.specs.Prelude.{ℕ, List, ◌++◌, take}
+use Rattle.edi_write.specs.declared.shared_front.SharedFront.{SharedFront}
+
+-- what is written so far
+abbrev pub written : SharedFront → List ℕ
+written b = take b.front b.other.now ++ b.page.file.items
