@@ -21,7 +21,7 @@ use Rattle.edi_json_answers.specs.BrokenSheets.{IsTextOfValues, all_broken_value
 use Rattle.edi_json_answers.specs.declared.broken_sheets.RuleCount.{RuleCount}
 use Rattle.edi_answers.specs.Effects.{Effects, Inputs, Stream}
 use Rattle.edi_answers.specs.Hashes.{GivesSchema, LoadFault, TellsFault, escaped_name, fault_line, schema_fault_path}
-use Rattle.edi_answers.specs.Notes.{InTurn, Notes}
+use Rattle.edi_answers.specs.Notes.{InTurn, WritesNoteIfAny}
 use Rattle.edi_answers.specs.Paths.{input_name}
 use Rattle.edi_answers.specs.Reasons.{IsReasonOf}
 use Rattle.edi_answers.specs.SheetRuns.{Gives, HasFailedAt, HoldsTooMuch, IsMissing, IsThere}
@@ -160,7 +160,7 @@ pub data AnswersCensus (inputs : Inputs) (why : Why) (s : Classes) (form : Answe
 abbrev pub IsCensusStatus : Effects → Stream → Stream → KindCodes → ManyFiles → AnswerForm → ℕ → Type 0
 IsCensusStatus run out err kinds files form status =
     ((s : Classes) × (note : List ℕ) × GivesSchema run.inputs kinds files s note
-    × InTurn err (λ e. Notes e note)
+    × InTurn err (λ e. WritesNoteIfAny e note)
     (λ e. AnswersCensus run.inputs run.why s form out e (map (λ p. p.now) files.sheets.items) status))
     ⊎ ((e : RunFault) × LoadFault run.inputs kinds files e × TellsFault run.why err e (schema_fault_path files e) status
     × Prints out [])

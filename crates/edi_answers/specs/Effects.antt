@@ -5,7 +5,7 @@ use Rattle.edi_line.specs.declared.device.ByteOut as byte_out
 use Rattle.edi_files.specs.declared.folder.Destination.TheVariants as destination
 use Rattle.edi_files.specs.declared.folder.Folder as folder
 use Rattle.edi_files.specs.Folders.{Goes, IsSpare}
-use Rattle.edi_files.specs.Outputs.{IsUnmade, IsWholeOrNew, Reaches, Stops}
+use Rattle.edi_files.specs.Outputs.{IsUnmade, IsWholeOrNew, Reaches, StopsAfter}
 use Rattle.edi_files.specs.Reasons.{Why}
 
 -- what is known of the inputs
@@ -66,7 +66,8 @@ effects {S = S} {N = N} g r s n before after = record {
   why = g.why after;
   Puts = λ path. Reaches S (g.holds after path) (g.sinks before path) (g.ends after path) s.contents;
   Stops =
-      λ path. Stops S (IsUnmade N (g.unwritable after path) n.has_failed) (g.sinks before path) s.contents s.has_failed;
+      λ path. StopsAfter S (IsUnmade N (g.unwritable after path) n.has_failed) (g.sinks before path) s.contents
+      s.has_failed;
   Replaces =
       λ path IsMade. g.tells before → Goes (g.moment before) (g.moment after) (g.left_since before) (g.left_since after)
       (IsWholeOrNew path (IsSpare (g.is_stray before) (g.moment before) (g.left_since before)) IsMade);

@@ -34,7 +34,7 @@ use Rattle.edi_answers.specs.declared.form.AnswerForm.{AnswerForm}
 use Rattle.edi_answers.specs.declared.form.AnswerForm.TheVariants.{Words, Json}
 use Rattle.edi_answers.specs.Effects.{Effects, Inputs, Stream}
 use Rattle.edi_answers.specs.Hinted.{AreFaultHints}
-use Rattle.edi_answers.specs.Notes.{InTurn, IsNote, NamesSomeKinds, Notes}
+use Rattle.edi_answers.specs.Notes.{InTurn, IsNote, NamesSomeKinds, WritesNoteIfAny}
 use Rattle.edi_answers.specs.SheetRuns.{Gives, HasFailedAt, HoldsTooMuch, IsMissing, IsThere}
 use Rattle.edi_answers.specs.Statuses.{IsUnsaid, LacksMemory, OnlyLacksMemory, Prints, PrintsFirst, Warns}
 use Rattle.edi_words.specs.declared.words.ManyFiles.{ManyFiles}
@@ -295,7 +295,7 @@ abbrev pub IsHashStatus : Effects → Stream → Stream → KindCodes → ManyFi
     → Type 0
 IsHashStatus run out err kinds files form with_schema siblings status =
     ((s : Classes) × (note : List ℕ) × GivesSchema run.inputs kinds files s note
-    × InTurn err (λ e. Notes e note)
+    × InTurn err (λ e. WritesNoteIfAny e note)
     (λ e. AnswersUnder run.inputs run.why s siblings form out e files with_schema status))
     ⊎ ((e : RunFault) × LoadFault run.inputs kinds files e × TellsFault run.why err e (schema_fault_path files e) status
     × Prints out [])

@@ -88,9 +88,9 @@ IsNoteOf inputs (Misused misuse) status note = note ≡ []
 IsNoteOf inputs (Answered given) status note = note ≡ []
 
 -- a stream got this note, or it has failed; and it got nothing where there is none
-abbrev pub Notes : Stream → List ℕ → Type 0
-Notes stream [] = Prints stream []
-Notes stream (x ∷ xs) = Warns stream (x ∷ xs)
+abbrev pub WritesNoteIfAny : Stream → List ℕ → Type 0
+WritesNoteIfAny stream [] = Prints stream []
+WritesNoteIfAny stream (x ∷ xs) = Warns stream (x ∷ xs)
 
 -- what a stream got at first, and what it got from there on
 abbrev pub InTurn : Stream → (Stream → Type 0) → (Stream → Type 0) → Type 0

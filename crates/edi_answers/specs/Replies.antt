@@ -1,7 +1,7 @@
 -- What is replied to the output and to the errors, one reply behind another.
 use Rattle.std.specs.Prelude.{◌≡◌, ◌⊎◌, ℕ, Bool, max, List, [], ◌∷◌, Option, IsTrue}
 use Rattle.edi_answers.specs.Effects.{Stream}
-use Rattle.edi_answers.specs.Notes.{Notes}
+use Rattle.edi_answers.specs.Notes.{WritesNoteIfAny}
 use Rattle.edi_answers.specs.Statuses.{LacksMemory, Prints}
 
 -- what a reply adds to the output and to the errors, and its status
@@ -42,7 +42,7 @@ EachUntil AnswerTo StopAt (x ∷ xs) out err s =
 
 -- the errors got these lines, with this status; or there was no memory for them
 abbrev pub ErrorsSay : List ℕ → ℕ → Stream → ℕ → Type 0
-ErrorsSay lines status err s = ((s ≡ status) × Notes err lines) ⊎ ((s ≡ 5) × LacksMemory err)
+ErrorsSay lines status err s = ((s ≡ status) × WritesNoteIfAny err lines) ⊎ ((s ≡ 5) × LacksMemory err)
 
 -- and the output got nothing
 abbrev pub SaysLines : List ℕ → ℕ → Reply

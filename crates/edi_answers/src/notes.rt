@@ -2,7 +2,7 @@
 ghost use Rattle.std.specs.Prelude.{◌≡◌, ◌++◌, IfOk, IsTrue, OnOk};
 ghost use Rattle.edi_explain.specs.KindClasses.{codes_of};
 ghost use Rattle.edi_answers.specs.Effects.{written};
-ghost use Rattle.edi_answers.specs.Notes.{IsNoteOn, Notes, lacking_line, note_line};
+ghost use Rattle.edi_answers.specs.Notes.{IsNoteOn, WritesNoteIfAny, lacking_line, note_line};
 
 use crate::report::warn;
 use edi_explain::lacking_kinds;
@@ -52,7 +52,7 @@ fn push_note(note: &mut Vec<u8>, name: &[u8], words: &[u8]) -> Result<(), AllocE
 
 /// Writes a note, if there is one.
 pub fn say<E: ByteOut>(err: &mut E, note: &[u8])
-    ensures text { Notes (written E.ByteOut err.old err.new) note.now }
+    ensures text { WritesNoteIfAny (written E.ByteOut err.old err.new) note.now }
     ensures stays { IsTrue (E.has_failed err.old) → IsTrue (E.has_failed err.new) }
 {
     if !note.is_empty() {

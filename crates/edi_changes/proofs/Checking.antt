@@ -9,12 +9,12 @@ use Rattle.edi_answers.specs.Hashes.{TellsFault}
 use Rattle.edi_answers.specs.Replies.{EachUntil, OneThenOther, Reply}
 use Rattle.edi_answers.proofs.Answering.{appends_nothing, over}
 use Rattle.edi_answers.proofs.Replies.{behind}
-use Rattle.edi_changes.specs.Checks.{SaysNoDigest, Verdict}
+use Rattle.edi_changes.specs.Checks.{SaysNoDigest, VerdictReply}
 use Rattle.edi_changes.specs.declared.checks.NoDigest.{NoDigest}
 use Rattle.edi_changes.specs.declared.checks.NoDigest.TheVariants.{NoFile, Fault}
 use Rattle.edi_changes.specs.declared.list.ListLine.{ListLine}
-use Rattle.edi_changes.specs.declared.verdict.Said.{Said}
-use Rattle.edi_changes.specs.declared.verdict.Said.TheVariants.{Whole, CutOff}
+use Rattle.edi_changes.specs.declared.verdict.LineOutcome.{LineOutcome}
+use Rattle.edi_changes.specs.declared.verdict.LineOutcome.TheVariants.{Whole, CutOff}
 use Rattle.edi_changes.specs.inner.Checking.{IsSaidAs, MatchNoDigest, TellsNoDigest, at_least}
 
 -- what holds of two numbers holds of the greater
@@ -64,20 +64,20 @@ module _ {X : Type 0} (Says Stops : X → Reply) (xs : List X) (o e : Option (Li
       (so_far p f pf ff 0 (λ w. w) (λ w. w) (subst (λ l. EachUntil Says Stops l (over p p pf) (over f f ff) 0) (sym (drop_of_length-le xs h)) (refl, refl, refl)))
 
 -- one of two replies behind another, of which the status is no less
-pub said_behind : (First Gives Fails : Reply) (o p q e f r : Option (List ℕ)) (pf qf ff rf : Bool) (a : ℕ) (said : Said) → First (over o p pf) (over e f ff) a
+pub said_behind : (First Gives Fails : Reply) (o p q e f r : Option (List ℕ)) (pf qf ff rf : Bool) (a : ℕ) (said : LineOutcome) → First (over o p pf) (over e f ff) a
     → IsSaidAs Gives Fails (over p q qf) (over f r rf) said → (IsTrue pf → IsTrue qf) → (IsTrue ff → IsTrue rf)
     → IsSaidAs (OneThenOther First Gives) (OneThenOther First Fails) (over o q qf) (over e r rf) (at_least a said)
 said_behind First Gives Fails o p q e f r pf qf ff rf a (Whole b) one other so se = behind First Gives o p q e f r pf qf ff rf a b (max a b) one other so se refl
 said_behind First Gives Fails o p q e f r pf qf ff rf a (CutOff b) one other so se = behind First Fails o p q e f r pf qf ff rf a b (max a b) one other so se refl
 
 -- what follows from either reply follows from what was said
-pub said_weaker : (Gives Fails Gives' Fails' : Reply) (out err : Stream) (said : Said) → ((s : ℕ) → Gives out err s → Gives' out err s) → ((s : ℕ) → Fails out err s → Fails' out err s)
+pub said_weaker : (Gives Fails Gives' Fails' : Reply) (out err : Stream) (said : LineOutcome) → ((s : ℕ) → Gives out err s → Gives' out err s) → ((s : ℕ) → Fails out err s → Fails' out err s)
     → IsSaidAs Gives Fails out err said → IsSaidAs Gives' Fails' out err said
 said_weaker Gives Fails Gives' Fails' out err (Whole s) g f h = g s h
 said_weaker Gives Fails Gives' Fails' out err (CutOff s) g f h = f s h
 
 -- why a sheet has no digest is said, where nothing else goes out
-pub no_digest_said : (run : Effects) (s : Classes) (Says : Verdict) (line : ListLine) (o : Option (List ℕ)) (of : Bool) (err : Stream) (why : NoDigest) (status : ℕ)
+pub no_digest_said : (run : Effects) (s : Classes) (Says : VerdictReply) (line : ListLine) (o : Option (List ℕ)) (of : Bool) (err : Stream) (why : NoDigest) (status : ℕ)
     → MatchNoDigest run.inputs s line.name why → TellsNoDigest run.why err why status → SaysNoDigest run s Says line (over o o of) err status
 no_digest_said run s Says line o of err (NoFile said) status m t = inr (said.now, m, (appends_nothing o, t.0), t.1)
 no_digest_said run s Says line o of err (Fault path e) status m t =

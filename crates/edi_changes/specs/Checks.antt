@@ -36,17 +36,17 @@ abbrev pub verdict_line : ListLine → Bool → List ℕ
 verdict_line line is_same = schema_word line.is_schema ++ named_line line.name (verdict_word is_same)
 
 -- what becomes of the line on a digest
-abbrev pub Verdict : Type 1
-Verdict = ListLine → Bool → Reply
+abbrev pub VerdictReply : Type 1
+VerdictReply = ListLine → Bool → Reply
 
 -- it goes out, and the status is that of the verdict; or there is no memory for it
-abbrev pub GivesVerdict : Verdict
+abbrev pub GivesVerdict : VerdictReply
 GivesVerdict line is_same out err s =
     (Answers out err (verdict_line line is_same) × (s ≡ status_of_verdict is_same))
     ⊎ (OnlyLacksMemory out err × (s ≡ 5))
 
 -- the output fails in it
-abbrev pub FailsInVerdict : Verdict
+abbrev pub FailsInVerdict : VerdictReply
 FailsInVerdict line is_same out err s =
     ((count : ℕ) × PrintsFirst out count (verdict_line line is_same)) × IsUnsaid out err × (s ≡ 4)
 
@@ -63,7 +63,7 @@ IsNoFilePath name line =
     × (line ≡ ended (codes "edicad: the list names standard input, which is not read")))
     ⊎ (¬ (IsUtf8 name) × (line ≡ ended (codes "edicad: the list names a file by a path that is not UTF-8")))
 
-module _ (run : Effects) (s : Classes) (Says : Verdict) (line : ListLine) where
+module _ (run : Effects) (s : Classes) (Says : VerdictReply) (line : ListLine) where
   -- a sheet has no digest, which the errors say as `hash` does; or its name is the path of no file, which they say
   abbrev pub SaysNoDigest : Reply
   SaysNoDigest out err status =

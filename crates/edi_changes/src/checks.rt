@@ -17,7 +17,7 @@ ghost use Rattle.edi_changes.specs.inner.Checking.{IsSaidAs, MatchNoDigest, Tell
 use crate::lacking::{Lack, read_at, tell_lack};
 use crate::list::ListLine;
 use crate::reading::read_list;
-use crate::verdict::{Said, at_least, say_verdict};
+use crate::verdict::{LineOutcome, at_least, say_verdict};
 use edi_answers::hashes::{digest_of, load_schema, path_of_schema, tell_fault};
 use edi_answers::{notes, report};
 use edi_compare::RunFault;
@@ -147,15 +147,20 @@ impl<'a, F: Folder> LineChecker<'a, F> {
         let mut worst = 0;
         for line in lines {
             match self.hold_line(line, out, err) {
-                Said::Whole(status) => worst = worst.max(status),
-                Said::CutOff(status) => return worst.max(status),
+                LineOutcome::Whole(status) => worst = worst.max(status),
+                LineOutcome::CutOff(status) => return worst.max(status),
             }
         }
         worst
     }
 
     // Holds a line against what is found.
-    fn hold_line<O: ByteOut, E: ByteOut>(&self, line: &ListLine, out: &mut O, err: &mut E) -> Said
+    fn hold_line<O: ByteOut, E: ByteOut>(
+        &self,
+        line: &ListLine,
+        out: &mut O,
+        err: &mut E,
+    ) -> LineOutcome
         ensures status { IsPairStatus (status_of_said result) }
         ensures said { let held = IsLineHeld (effects F.Folder F.Reader.ByteIn F.Sink.ByteOut F.NewFile.ByteOut
             self.now.folder.now self.now.folder.now) self.now.schema.now in
@@ -172,7 +177,12 @@ impl<'a, F: Folder> LineChecker<'a, F> {
     }
 
     // Holds the line of a schema against the digest of the schema.
-    fn hold_schema<O: ByteOut, E: ByteOut>(&self, line: &ListLine, out: &mut O, err: &mut E) -> Said
+    fn hold_schema<O: ByteOut, E: ByteOut>(
+        &self,
+        line: &ListLine,
+        out: &mut O,
+        err: &mut E,
+    ) -> LineOutcome
         ensures status { IsPairStatus (status_of_said result) }
         ensures said { let is_same = bytes_eq (sha256 (text_of_schema self.now.schema.now)) line.now.digest in
             IsSaidAs (GivesVerdict line.now is_same) (FailsInVerdict line.now is_same)
@@ -182,7 +192,7 @@ impl<'a, F: Folder> LineChecker<'a, F> {
     {
         match schema_digest(self.alloc, self.schema) {
             Ok(digest) => say_verdict(self.alloc, line, is_digest_of(&digest, line), out, err),
-            Err(_) => Said::Whole(report::out_of_memory(err)),
+            Err(_) => LineOutcome::Whole(report::out_of_memory(err)),
         }
     }
 
@@ -219,7 +229,12 @@ impl<'a, F: Folder> LineChecker<'a, F> {
     }
 
     // Holds the line of a sheet against the digest of its canonical file.
-    fn hold_sheet<O: ByteOut, E: ByteOut>(&self, line: &ListLine, out: &mut O, err: &mut E) -> Said
+    fn hold_sheet<O: ByteOut, E: ByteOut>(
+        &self,
+        line: &ListLine,
+        out: &mut O,
+        err: &mut E,
+    ) -> LineOutcome
         ensures status { IsPairStatus (status_of_said result) }
         ensures said { let held = IsSheetHeld (effects F.Folder F.Reader.ByteIn F.Sink.ByteOut F.NewFile.ByteOut
             self.now.folder.now self.now.folder.now) self.now.schema.now in

@@ -17,7 +17,7 @@ const FAILED_STATUS: u8 = 1;
 
 /// What was said of a line of a list, with the status.
 #[derive(Clone, Copy)]
-pub(crate) enum Said {
+pub(crate) enum LineOutcome {
     /// All of it.
     Whole(u8),
     /// The output failed in it.
@@ -25,13 +25,13 @@ pub(crate) enum Said {
 }
 
 /// The same with a status that is no less.
-pub(crate) fn at_least(least: u8, said: Said) -> Said
+pub(crate) fn at_least(least: u8, said: LineOutcome) -> LineOutcome
     ensures value { result ≡ at_least least said }
     ensures status { IsPairStatus least → IsPairStatus (status_of_said said) → IsPairStatus (status_of_said result) }
 {
     match said {
-        Said::Whole(status) => Said::Whole(least.max(status)),
-        Said::CutOff(status) => Said::CutOff(least.max(status)),
+        LineOutcome::Whole(status) => LineOutcome::Whole(least.max(status)),
+        LineOutcome::CutOff(status) => LineOutcome::CutOff(least.max(status)),
     }
 }
 
@@ -71,7 +71,7 @@ pub(crate) fn say_verdict<O: ByteOut, E: ByteOut>(
     is_same: bool,
     out: &mut O,
     err: &mut E,
-) -> Said
+) -> LineOutcome
     ensures status { IsPairStatus (status_of_said result) }
     ensures said { IsSaidAs (GivesVerdict line.now is_same) (FailsInVerdict line.now is_same)
         (written O.ByteOut out.old out.new) (written E.ByteOut err.old err.new) result }
@@ -79,10 +79,10 @@ pub(crate) fn say_verdict<O: ByteOut, E: ByteOut>(
     ensures err_stays { IsTrue (E.has_failed err.old) → IsTrue (E.has_failed err.new) }
 {
     let Ok(text) = verdict_line(alloc, line, is_same) else {
-        return Said::Whole(report::out_of_memory(err));
+        return LineOutcome::Whole(report::out_of_memory(err));
     };
     match put_all(out, &text) {
-        Ok(()) => Said::Whole(status_of_verdict(is_same)),
-        Err(_) => Said::CutOff(report::say_unwritten(err)),
+        Ok(()) => LineOutcome::Whole(status_of_verdict(is_same)),
+        Err(_) => LineOutcome::CutOff(report::say_unwritten(err)),
     }
 }

@@ -5,7 +5,7 @@ use Rattle.edi_schema.specs.Roles.{KindCodes}
 use Rattle.edi_schema.specs.SchemaRefusal.{IsGoodSchema}
 use Rattle.edi_compare.specs.Faults.{of_first, of_pair}
 use Rattle.edi_compare.specs.Refused.{IsPairRefusal, IsRefusal}
-use Rattle.edi_compare.specs.inner.Runs.{PairFault, SheetFault}
+use Rattle.edi_compare.specs.inner.Runs.{PairFault, OneSheetFault}
 use Rattle.edi_compare.specs.inner.Under.{UnderSchema}
 use Rattle.edi_compare.specs.declared.fault.Fault.{Fault}
 use Rattle.edi_compare.specs.declared.fault.Fault.TheVariants.{Memory, Line, Entry}
@@ -20,7 +20,7 @@ pair_fault kinds scd dic a b s (pair.Second f) good h = (s, good, h.0, h.1, h.2)
 
 -- the same of one sheet
 pub sheet_fault : (kinds : KindCodes) (scd dic b : List ℕ) (s : Classes) (f : Fault) → IsGoodSchema scd dic kinds s
-    → IsRefusal s b f → SheetFault kinds scd dic b (of_pair (of_first f))
+    → IsRefusal s b f → OneSheetFault kinds scd dic b (of_pair (of_first f))
 sheet_fault kinds scd dic b s (Memory e) good h = tt
 sheet_fault kinds scd dic b s (Line rule at) good h = (s, good, tt, h)
 sheet_fault kinds scd dic b s (Entry rule at) good h = (s, good, tt, h)

@@ -11,11 +11,11 @@ use Rattle.edi_compare.specs.declared.uncarried.RecordPart.TheVariants.{Reversal
 use Rattle.edi_compare.specs.declared.uncarried.Uncarried.{Uncarried}
 use Rattle.edi_compare.specs.declared.uncarried.Uncarried.TheVariants.{Entries, CharacterSets, Record, Unmet}
 use Rattle.edi_compare.specs.declared.uncarried.WrongPartner.TheVariants.{Nowhere, Shared, Unlike}
-use Rattle.edi_compare.specs.inner.Checking.{Matching, AgreeAt, AreCarried, AreMarked, IsCarriedAt, FailsBy}
+use Rattle.edi_compare.specs.inner.Checking.{PairedPlans, AgreeAt, AreCarried, AreMarked, IsCarriedAt, FailsBy}
 
 -- ---- where all records of the first plan are carried
 
-module _ (m : Matching) (marks : List Bool) (are : AreMarked (slice_index m.to) marks (length m.other.list) (length m.plan.list)) (each : (i : ℕ) → IsPlace m.plan i → IsCarriedAt m i) where
+module _ (m : PairedPlans) (marks : List Bool) (are : AreMarked (slice_index m.to) marks (length m.other.list) (length m.plan.list)) (each : (i : ℕ) → IsPlace m.plan i → IsCarriedAt m i) where
   pub all_met : ((j : ℕ) → IsPlace m.other j → get_or marks j false ≡ true) → AreCarried m
   all_met all = record { each = each; onto = λ j h. are.found j (all j h) }
 
@@ -30,7 +30,7 @@ module _ (m : Matching) (marks : List Bool) (are : AreMarked (slice_index m.to) 
 -- ---- what is found, of the pairing
 
 module _ (s : Classes) (p q : PlanData) (pairing : Pairing) where
-  abbrev pub matching_of : Matching
+  abbrev pub matching_of : PairedPlans
   matching_of = record { classes = s; plan = p; other = q; to = pairing.to; turned = pairing.turned }
 
   apart : AreCarried matching_of → (i k : ℕ) → IsPlace p i → IsPlace p k → slice_index pairing.to i ≡ slice_index pairing.to k → i ≡ k

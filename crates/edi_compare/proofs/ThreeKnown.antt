@@ -4,7 +4,7 @@ use Rattle.std.specs.Io.KnownBytes.{Appends}
 use Rattle.edi_schema.specs.Roles.{KindCodes}
 use Rattle.edi_compare.specs.Bundle.{AreParts, OfParts}
 use Rattle.edi_compare.specs.Runs.{IfBothKnown, IfThreeKnown, MatchFault, RefusesSchema, RefusesSheet, IsCanonOf, WritesAll, WritesFirst}
-use Rattle.edi_compare.specs.inner.Runs.{SheetFault, BundleFault}
+use Rattle.edi_compare.specs.inner.Runs.{OneSheetFault, BundleFault}
 use Rattle.edi_compare.specs.declared.fault.RunFault.{RunFault}
 use Rattle.edi_compare.specs.declared.fault.RunFault.TheVariants.{Memory, Read, TooLong, Schema, First, Second, Write}
 
@@ -43,7 +43,7 @@ known_on (Ok o) a b c x y z P h k l p = three_known a b c x y z P h k l p
 known_on (Err e) a b c x y z P h k l p = tt
 
 known_fault : (kinds : KindCodes) (e : RunFault) (a b c : Option (List ℕ)) (x y z : List ℕ) (R T W : ℕ → Type 0)
-    → IfSome a (λ t. x ≡ t) → IfSome b (λ t. y ≡ t) → IfSome c (λ t. z ≡ t) → SheetFault kinds x y z e
+    → IfSome a (λ t. x ≡ t) → IfSome b (λ t. y ≡ t) → IfSome c (λ t. z ≡ t) → OneSheetFault kinds x y z e
     → MatchFault e R T (λ f. IfBothKnown a b (λ s d. RefusesSchema kinds s d f)) (λ f. IfThreeKnown a b c (λ s d v. RefusesSheet kinds s d v f)) (λ _. ⊥) W
 known_fault kinds (Memory e) a b c x y z R T W h k l p = tt
 known_fault kinds (Read i) a b c x y z R T W h k l p = absurd p
@@ -54,7 +54,7 @@ known_fault kinds (Second f) a b c x y z R T W h k l p = absurd p
 known_fault kinds (Write w) a b c x y z R T W h k l p = absurd p
 
 pub known_err : {X : Type 0} (kinds : KindCodes) (r : Result X RunFault) (a b c : Option (List ℕ)) (x y z : List ℕ) (R T W : ℕ → Type 0)
-    → IfSome a (λ t. x ≡ t) → IfSome b (λ t. y ≡ t) → IfSome c (λ t. z ≡ t) → IfErr r (SheetFault kinds x y z)
+    → IfSome a (λ t. x ≡ t) → IfSome b (λ t. y ≡ t) → IfSome c (λ t. z ≡ t) → IfErr r (OneSheetFault kinds x y z)
     → IfErr r (λ e. MatchFault e R T (λ f. IfBothKnown a b (λ s d. RefusesSchema kinds s d f)) (λ f. IfThreeKnown a b c (λ s d v. RefusesSheet kinds s d v f)) (λ _. ⊥) W)
 known_err kinds (Ok o) a b c x y z R T W h k l p = tt
 known_err kinds (Err e) a b c x y z R T W h k l p = known_fault kinds e a b c x y z R T W h k l p
@@ -66,7 +66,7 @@ pub parts_ok : {X : Type 0} (r : Result X RunFault) (b x y z : List ℕ) (P : X 
 parts_ok (Ok o) b x y z P h p = (x, y, z, h, p)
 parts_ok (Err e) b x y z P h p = tt
 
-parts_fault : (kinds : KindCodes) (e : RunFault) (b x y z : List ℕ) → AreParts b x y z → SheetFault kinds x y z e → BundleFault kinds b e
+parts_fault : (kinds : KindCodes) (e : RunFault) (b x y z : List ℕ) → AreParts b x y z → OneSheetFault kinds x y z e → BundleFault kinds b e
 parts_fault kinds (Memory e) b x y z h p = tt
 parts_fault kinds (Read i) b x y z h p = absurd p
 parts_fault kinds (TooLong i) b x y z h p = absurd p
@@ -76,7 +76,7 @@ parts_fault kinds (Second f) b x y z h p = absurd p
 parts_fault kinds (Write w) b x y z h p = absurd p
 
 pub parts_err : {X : Type 0} (kinds : KindCodes) (r : Result X RunFault) (b x y z : List ℕ) → AreParts b x y z
-    → IfErr r (SheetFault kinds x y z) → IfErr r (BundleFault kinds b)
+    → IfErr r (OneSheetFault kinds x y z) → IfErr r (BundleFault kinds b)
 parts_err kinds (Ok o) b x y z h p = tt
 parts_err kinds (Err e) b x y z h p = parts_fault kinds e b x y z h p
 

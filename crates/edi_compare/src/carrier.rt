@@ -26,9 +26,9 @@ pub struct Carrier<'a> {
 }
 
 impl<'a> Model for Carrier<'a> {
-    ghost use Rattle.edi_compare.specs.inner.Checking.{Matching, HasEntryForEach};
+    ghost use Rattle.edi_compare.specs.inner.Checking.{PairedPlans, HasEntryForEach};
 
-    ghost Value = { Matching };
+    ghost Value = { PairedPlans };
 
     ghost view = { λ p. record {
       classes = p.schema.now;

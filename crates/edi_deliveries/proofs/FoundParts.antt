@@ -10,7 +10,7 @@ use Rattle.edi_files.specs.Reasons.{Why}
 use Rattle.edi_words.specs.declared.words.ManyFiles.{ManyFiles}
 use Rattle.edi_answers.specs.Effects.{Inputs, Stream}
 use Rattle.edi_answers.specs.Hashes.{GivesSchema}
-use Rattle.edi_answers.specs.Notes.{Notes}
+use Rattle.edi_answers.specs.Notes.{WritesNoteIfAny}
 use Rattle.edi_answers.specs.Statuses.{LacksMemory}
 use Rattle.edi_answers.proofs.Answering.{over}
 use Rattle.edi_deliveries.specs.Deliveries.{ErrorsSay, found_path}
@@ -42,7 +42,7 @@ module _ (inputs : Inputs) (why : Why) (at : PlacedLot) (name : List ℕ) (diges
 
 -- a schema that was loaded, with the note on its kinds
 pub schema_found : (inputs : Inputs) (why : Why) (kinds : KindCodes) (files : ManyFiles) (at : PlacedLot) (a b : List ManifestLine)
-    (c : Classes) (note : List ℕ) (e f r : Option (List ℕ)) (ff rf : Bool) (s : ℕ) → GivesSchema inputs kinds files c note → Notes (over e f ff) note
+    (c : Classes) (note : List ℕ) (e f r : Option (List ℕ)) (ff rf : Bool) (s : ℕ) → GivesSchema inputs kinds files c note → WritesNoteIfAny (over e f ff) note
     → AddsLines a b (λ l. AreSheetsFound inputs why c at l (over f r rf) s) → (IsTrue ff → IsTrue rf)
     → AddsLines a b (λ l. IsSchemaFound inputs why kinds files at l (over e r rf) s)
 schema_found inputs why kinds files at a b c note e f r ff rf s gives noted found stays =
@@ -50,6 +50,6 @@ schema_found inputs why kinds files at a b c note e f r ff rf s gives noted foun
 
 -- what the errors were told, where there was memory for it
 pub said_of : {V E : Type 0} (items : V → List ℕ) (r : Result V E) (text : List ℕ) (status : ℕ) (err : Stream) (s : ℕ)
-    → MatchResult r (λ v. (s ≡ status) × Notes err (items v)) (λ _. (s ≡ 5) × LacksMemory err) → IfOk r (λ v. items v ≡ text) → ErrorsSay text status err s
-said_of items (Ok v) text status err s h is = inl (h.0, subst (Notes err) is h.1)
+    → MatchResult r (λ v. (s ≡ status) × WritesNoteIfAny err (items v)) (λ _. (s ≡ 5) × LacksMemory err) → IfOk r (λ v. items v ≡ text) → ErrorsSay text status err s
+said_of items (Ok v) text status err s h is = inl (h.0, subst (WritesNoteIfAny err) is h.1)
 said_of items (Err e) text status err s h is = inr h

@@ -15,7 +15,7 @@ use Rattle.edi_files.specs.Reasons.{Why}
 use Rattle.edi_words.specs.declared.words.ManyFiles.{ManyFiles}
 use Rattle.edi_answers.specs.Effects.{Inputs, Stream}
 use Rattle.edi_answers.specs.Hashes.{GivesSchema, IsAnswerOf, LoadFault, TellsFault, schema_fault_path}
-use Rattle.edi_answers.specs.Notes.{InTurn, Notes}
+use Rattle.edi_answers.specs.Notes.{InTurn, WritesNoteIfAny}
 use Rattle.edi_answers.specs.Statuses.{LacksMemory}
 use Rattle.edi_answers.specs.WholeInputs.{OfWholeInput, WholeInputFault}
 use Rattle.edi_deliveries.specs.Deliveries.{ErrorsSay, LacksSchema, Opened, found_path, missing_lines, status_of_missing, unnamed_lines}
@@ -127,7 +127,7 @@ module _ (inputs : Inputs) (why : Why) where
     abbrev pub IsSchemaFound : ManyFiles → PlacedLot → Finding
     IsSchemaFound files at lines err s =
         ((c : Classes) × (note : List ℕ) × GivesSchema inputs kinds files c note
-        × InTurn err (λ e. Notes e note) (λ e. AreSheetsFound c at lines e s))
+        × InTurn err (λ e. WritesNoteIfAny e note) (λ e. AreSheetsFound c at lines e s))
         ⊎ ((e : RunFault) × LoadFault inputs kinds files e × TellsFault why err e (schema_fault_path files e) s
         × (lines ≡ []))
 

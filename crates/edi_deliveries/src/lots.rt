@@ -3,7 +3,7 @@ ghost use Rattle.std.specs.Prelude.{◌≡◌, ◌⊎◌, IfOk, IsTrue, false, m
 ghost use Rattle.edi_answers.specs.declared.form.AnswerForm.TheVariants.{Words};
 ghost use Rattle.edi_answers.specs.Effects.{effects, written};
 ghost use Rattle.edi_answers.specs.Hashes.{IsHashStatus};
-ghost use Rattle.edi_answers.specs.Notes.{Notes};
+ghost use Rattle.edi_answers.specs.Notes.{WritesNoteIfAny};
 ghost use Rattle.edi_answers.specs.Statuses.{IsSheetStatus, LacksMemory, OnlyLacksMemory};
 ghost use Rattle.edi_words.specs.declared.words.ManyFiles.{ManyFiles};
 ghost use Rattle.edi_deliveries.specs.Deliveries.{AreLotsAnswered, EachInTurn, IsLotAnswered, IsLotHashed, missing_lines, siblings_of, status_of_missing};
@@ -65,7 +65,7 @@ pub(crate) fn say_missing<E: ByteOut>(
 ) -> u8
     ensures status { IsSheetStatus result }
     ensures said { ((result ≡ status_of_missing (missing_lines before.now (names.now) lot.now))
-        × Notes (written E.ByteOut err.old err.new) (missing_lines before.now (names.now) lot.now))
+        × WritesNoteIfAny (written E.ByteOut err.old err.new) (missing_lines before.now (names.now) lot.now))
         ⊎ ((result ≡ 5) × LacksMemory (written E.ByteOut err.old err.new)) }
     ensures stays { IsTrue (E.has_failed err.old) → IsTrue (E.has_failed err.new) }
 {

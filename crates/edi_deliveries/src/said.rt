@@ -5,7 +5,7 @@ ghost use Rattle.std.specs.List.{list_any};
 ghost use Rattle.std.specs.Str.{bytes_eq};
 ghost use Rattle.edi_answers.specs.Effects.{written};
 ghost use Rattle.edi_answers.specs.Hashes.{named_line};
-ghost use Rattle.edi_answers.specs.Notes.{Notes};
+ghost use Rattle.edi_answers.specs.Notes.{WritesNoteIfAny};
 ghost use Rattle.edi_answers.specs.Statuses.{LacksMemory};
 ghost use Rattle.edi_delivery.specs.Lots.{files_of};
 ghost use Rattle.edi_deliveries.specs.Deliveries.{found_name, found_names, is_unnamed, missing_line, missing_lines, refusal_words, unnamed_line, unnamed_lines};
@@ -29,7 +29,7 @@ pub(crate) fn say_lines<E: ByteOut>(
     status: u8,
 ) -> u8
     ensures said { MatchResult lines.now (λ lines. (result ≡ status)
-        × Notes (written E.ByteOut err.old err.new) lines.items)
+        × WritesNoteIfAny (written E.ByteOut err.old err.new) lines.items)
         (λ _. (result ≡ 5) × LacksMemory (written E.ByteOut err.old err.new)) }
     ensures stays { IsTrue (E.has_failed err.old) → IsTrue (E.has_failed err.new) }
 {

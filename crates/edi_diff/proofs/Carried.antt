@@ -22,7 +22,7 @@ use Rattle.edi_matching.specs.declared.matching.Matching.{Matching}
 use Rattle.edi_matching.proofs.RecordsAdded.{carried_later}
 use Rattle.edi_report.specs.Lines.{some_differ}
 use Rattle.edi_report.specs.Reports.{parts_at}
-use Rattle.edi_report.specs.declared.parts.Parts.{Parts}
+use Rattle.edi_report.specs.declared.parts.DifferingParts.{DifferingParts}
 use Rattle.edi_report.specs.declared.sheet.LocatedSheet.{LocatedSheet}
 use Rattle.edi_objects.specs.Differing.{differs_by, is_differing}
 use Rattle.edi_objects.specs.Telling.{AreSoundParts, IsSoundReport}
@@ -47,7 +47,7 @@ endless m a b p q = record {
       (subst (λ (es : List PlanEnd). IsPermutation [] (rest_of es)) (sym q) (IsPermutation-refl []));
 }
 
-parts_sound : (s : Classes) (m : Matching) (i : ℕ) (a b : PlanRecord) (parts : Parts) → AreChangedParts s m i a b parts → AreSoundParts a b parts
+parts_sound : (s : Classes) (m : Matching) (i : ℕ) (a b : PlanRecord) (parts : DifferingParts) → AreChangedParts s m i a b parts → AreSoundParts a b parts
 parts_sound s m i a b parts are = record {
   attributes = λ said same. true≢false (sym said ∙ are.attributes.1 same);
   points = λ p q. are.points.1 (q ∙ sym (ap (directed (turned_at m.turned i)) p ∙ none_directed (turned_at m.turned i)));
@@ -57,7 +57,7 @@ parts_sound s m i a b parts are = record {
 unmatched : (to : List (Option ℕ)) (i : ℕ) → get_or to i None ≡ None → ¬ (IsMatched to i)
 unmatched to i none matched = let e = sym none ∙ matched.1 in cc
 
-pub report_sound : (s : Classes) (first second : LocatedSheet) (unchanged became : Matching) (parts : List Parts) → IsWholePlan first.accepted → IsWholePlan second.accepted
+pub report_sound : (s : Classes) (first second : LocatedSheet) (unchanged became : Matching) (parts : List DifferingParts) → IsWholePlan first.accepted → IsWholePlan second.accepted
     → AreChanges first.accepted second.accepted unchanged became → ArePartsOfEach s first.accepted second.accepted unchanged became parts → IsSoundReport (report_by first second unchanged became parts)
 report_sound s first second unchanged became parts whole whole' are each = record {
   first_whole = whole;
@@ -97,7 +97,7 @@ carried_turned s to t u i a b same all c = record {
   others = c.others;
 }
 
-module _ (s : Classes) (first second : LocatedSheet) (unchanged became : Matching) (parts : List Parts) (holds : MatchingHolds s first.accepted second.accepted unchanged)
+module _ (s : Classes) (first second : LocatedSheet) (unchanged became : Matching) (parts : List DifferingParts) (holds : MatchingHolds s first.accepted second.accepted unchanged)
     (are : AreChanges first.accepted second.accepted unchanged became) (each : ArePartsOfEach s first.accepted second.accepted unchanged became parts) where
   abbrev p : PlanData
   p = first.accepted

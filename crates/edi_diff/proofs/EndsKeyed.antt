@@ -7,9 +7,9 @@ use Rattle.edi_diff.specs.inner.Codes.{is_of_second, place_by}
 use Rattle.edi_diff.specs.inner.Keys.{all_known, named_ends_key, is_there}
 use Rattle.edi_record.specs.Records.{is_link}
 use Rattle.edi_diff.specs.inner.Joints.{record_by}
-use Rattle.edi_diff.specs.inner.Progress.{Progress, link_class_at, known_name, plan_of}
+use Rattle.edi_diff.specs.inner.Progress.{ChangesSoFar, link_class_at, known_name, plan_of}
 
-module _ (m : Progress) (code : ℕ) (p : PlanData) (p_is : p ≡ plan_of m (is_of_second code)) (place : ℕ) (place_is : place ≡ place_by code) (here : place < length p.list) (link : is_link (record_at p place).kind ≡ true) where
+module _ (m : ChangesSoFar) (code : ℕ) (p : PlanData) (p_is : p ≡ plan_of m (is_of_second code)) (place : ℕ) (place_is : place ≡ place_by code) (here : place < length p.list) (link : is_link (record_at p place).kind ≡ true) where
   abbrev names_by : List PlanEnd → Option (List ℕ)
   names_by ends = all_known (map (λ end. known_name m (is_of_second code) end.target) ends)
 

@@ -8,7 +8,7 @@ use Rattle.edi_matching.specs.Matchings.{GoesTo, IsMatched, IsTotal, MatchingHol
 use Rattle.edi_matching.specs.declared.matching.Matching.{Matching}
 use Rattle.edi_report.specs.Lines.{is_reached, went_to}
 use Rattle.edi_report.specs.Reports.{HasSites, Report}
-use Rattle.edi_report.specs.declared.parts.Parts.{Parts}
+use Rattle.edi_report.specs.declared.parts.DifferingParts.{DifferingParts}
 use Rattle.edi_report.specs.declared.sheet.LocatedSheet.{LocatedSheet}
 use Rattle.edi_report.specs.Tables.{AreMarks, IsFitting}
 use Rattle.edi_diff.specs.Changes.{AreChanges, ArePartsOfEach}
@@ -30,7 +30,7 @@ no_changes s p q m h = record {
   types = λ i j goes. (h.each i j goes).kind;
 }
 
-pub fits : (first second : LocatedSheet) (unchanged became : Matching) (parts : List Parts) → HasSites first → HasSites second → length unchanged.to ≡ length first.accepted.list
+pub fits : (first second : LocatedSheet) (unchanged became : Matching) (parts : List DifferingParts) → HasSites first → HasSites second → length unchanged.to ≡ length first.accepted.list
     → AreChanges first.accepted second.accepted unchanged became → IsFitting (record { first = first; second = second; unchanged = unchanged.to; became = became.to; parts = parts })
 fits first second unchanged became parts here there long are = record {
   first_sites = here;
@@ -78,14 +78,14 @@ total_marked p q m marks are total j h =
 
 -- ---- the text
 
-pub text_by : (s : Classes) (first second : LocatedSheet) (m became : Matching) (parts : List Parts) (form : TextForm) (text : List ℕ)
-    (unchanged went : List (Option ℕ)) (reported_parts : List Parts) → AreChanges first.accepted second.accepted m became → ArePartsOfEach s first.accepted second.accepted m became parts
+pub text_by : (s : Classes) (first second : LocatedSheet) (m became : Matching) (parts : List DifferingParts) (form : TextForm) (text : List ℕ)
+    (unchanged went : List (Option ℕ)) (reported_parts : List DifferingParts) → AreChanges first.accepted second.accepted m became → ArePartsOfEach s first.accepted second.accepted m became parts
     → unchanged ≡ m.to → went ≡ became.to → reported_parts ≡ parts
     → text ≡ text_of_form s form (record { first = first; second = second; unchanged = unchanged; became = went; parts = reported_parts })
     → IsReadByForm form (record { first = first; second = second; unchanged = unchanged; became = went; parts = reported_parts }) text
     → (x : IsDifferenceText s first second m form text) × (x.became ≡ became)
 text_by s first second m became parts form text unchanged went reported_parts are are_parts is_kept is_went is_parts reporter read =
-    let told : List (Option ℕ) → List (Option ℕ) → List Parts → Report = λ kept to ps. record { first = first; second = second; unchanged = kept; became = to; parts = ps } in
+    let told : List (Option ℕ) → List (Option ℕ) → List DifferingParts → Report = λ kept to ps. record { first = first; second = second; unchanged = kept; became = to; parts = ps } in
     let same : told unchanged went reported_parts ≡ report_by first second m became parts =
     ap (λ to. told to went reported_parts) is_kept ∙ (ap (λ to. told m.to to reported_parts) is_went ∙ ap (λ ps. told m.to became.to ps) is_parts) in (
       record {

@@ -13,21 +13,21 @@ use Rattle.edi_matching.specs.Matchings.{GoesTo, IsMatched, targets_of}
 use Rattle.edi_matching.specs.declared.matching.Matching.{Matching}
 use Rattle.edi_schema.specs.Classes.{Classes}
 use Rattle.edi_report.specs.Reports.{parts_at}
-use Rattle.edi_report.specs.declared.parts.Parts.{Parts}
+use Rattle.edi_report.specs.declared.parts.DifferingParts.{DifferingParts}
 use Rattle.edi_diff.specs.Changes.{AreChangedParts, ArePartsOfEach, HasEndsOf}
 use Rattle.edi_diff.specs.inner.Comparisons.{ArePartsAt, Comparison, became}
 
 -- the parts of the first n records
-abbrev pub ArePartsUpTo : Comparison → List Parts → ℕ → Type 0
+abbrev pub ArePartsUpTo : Comparison → List DifferingParts → ℕ → Type 0
 ArePartsUpTo m parts n = (i j : ℕ) → i < n → ¬ (IsMatched m.unchanged i) → GoesTo m.to i j → ArePartsAt m i j (parts_at parts i)
 
-abbrev none_differ : Parts
+abbrev none_differ : DifferingParts
 none_differ = record { class = false; attributes = false; extras = false; points = false; ends = false }
 
 at_last : {X : Type 0} (xs : List X) (x d : X) (n : ℕ) → length xs ≡ n → get_or (xs ++ x ∷ []) n d ≡ x
 at_last xs x d n long = subst (λ (k : ℕ). get_or (xs ++ x ∷ []) k d ≡ x) long (get_or-append_seam xs x [] d)
 
-pub parts_more : (m : Comparison) (parts : List Parts) (x : Parts) (n : ℕ) → length parts ≡ n → ArePartsUpTo m parts n
+pub parts_more : (m : Comparison) (parts : List DifferingParts) (x : DifferingParts) (n : ℕ) → length parts ≡ n → ArePartsUpTo m parts n
     → ((j : ℕ) → ¬ (IsMatched m.unchanged n) → GoesTo m.to n j → ArePartsAt m n j x) → ArePartsUpTo m (parts ++ x ∷ []) (n + 1)
 parts_more m parts x n long reporter here i j less free goes = go (cases_eq i n)
   where
@@ -72,7 +72,7 @@ ends_known m i j targeted all (Ok answer) reporter = (λ t. there (reporter.0 t)
 -- ---- all records
 
 pub parts_reported : {X E : Type 0} (s : Classes) (p q : PlanData) (unchanged became : Matching) (of_unchanged to : List (Option ℕ)) (turned : List Bool)
-    → of_unchanged ≡ unchanged.to → to ≡ became.to → turned ≡ became.turned → (r : Result X E) (items : X → List Parts)
+    → of_unchanged ≡ unchanged.to → to ≡ became.to → turned ≡ became.turned → (r : Result X E) (items : X → List DifferingParts)
     → IfOk r (λ parts. (i j : ℕ) → ¬ (IsMatched of_unchanged i) → GoesTo to i j → AreChangedParts s (record { to = to; turned = turned }) i (record_at p i) (record_at q j) (parts_at (items parts) i))
     → IfOk r (λ parts. ArePartsOfEach s p q unchanged became (items parts))
 parts_reported s p q unchanged became of_unchanged to turned is_kept is_to is_turned (Err e) items reporter = tt

@@ -18,7 +18,7 @@ use Rattle.edi_compare.specs.Rules.{IsAccepted}
 use Rattle.edi_matching.specs.Matchings.{IsTotal}
 use Rattle.edi_report.specs.Lines.{charset_change, charset_change_line, charsets_line, is_reached, totals_line, went_to}
 use Rattle.edi_report.specs.Reports.{Report, parts_at}
-use Rattle.edi_report.specs.declared.parts.Parts.{Parts}
+use Rattle.edi_report.specs.declared.parts.DifferingParts.{DifferingParts}
 use Rattle.edi_objects.specs.Accounts.{bare_link, bare_link_by, bare_links, first_bare_link, is_told_beside, objects_of, record_line_text, second_bare_link, shapes_of}
 use Rattle.edi_objects.specs.Counts.{class_totals}
 use Rattle.edi_objects.specs.Differing.{arrives, became_of, bounds_anew, bounds_type, differs_by, is_differing, moved_by, moved_to, outline_differs, same_of}
@@ -109,11 +109,11 @@ same_charset_line (Some a) None e = absurd cc
 same_charset_line None (Some b) e = absurd cc
 same_charset_line (Some a) (Some b) e = let one : a ≡ b = cc in ap (λ (t : Bool). if t then [] else charset_change a b) ((bytes_eq-Decides a b).1 one)
 
-differs_not : (same : Option ℕ) (j : ℕ) (went : Option ℕ) (parts : Parts) → same ≡ Some j → differs_by same went parts ≡ false
+differs_not : (same : Option ℕ) (j : ℕ) (went : Option ℕ) (parts : DifferingParts) → same ≡ Some j → differs_by same went parts ≡ false
 differs_not None j went parts e = absurd cc
 differs_not (Some k) j went parts e = refl
 
-moves_not : (same : Option ℕ) (j : ℕ) (went : Option ℕ) (parts : Parts) → same ≡ Some j → moved_by same went parts ≡ None
+moves_not : (same : Option ℕ) (j : ℕ) (went : Option ℕ) (parts : DifferingParts) → same ≡ Some j → moved_by same went parts ≡ None
 moves_not None j went parts e = absurd cc
 moves_not (Some k) j went parts e = refl
 

@@ -11,7 +11,7 @@ use Rattle.edi_matching.specs.Matchings.{GoesTo, IsMatched, targets_of}
 use Rattle.edi_matching.specs.declared.matching.Matching.{Matching}
 use Rattle.edi_diff.specs.Directions.{RunsBackwards}
 use Rattle.edi_report.specs.Reports.{parts_at}
-use Rattle.edi_report.specs.declared.parts.Parts.{Parts}
+use Rattle.edi_report.specs.declared.parts.DifferingParts.{DifferingParts}
 
 -- Beside the records of p that are matched, some others go to records of q of their types, which they became; no two go
 -- to one. Those of them that are reversed are arcs, and an arc that became another is reversed if it runs the other
@@ -36,7 +36,8 @@ pub record HasEndsOf (became : Matching) (a b : PlanRecord) : Type 0 where
 
 -- The parts in which the record a at the place i and the record b that it became differ, after the reversals: each is
 -- said to differ exactly unless it is that of b.
-pub record AreChangedParts (s : Classes) (became : Matching) (i : ℕ) (a b : PlanRecord) (parts : Parts) : Type 0 where
+pub record AreChangedParts (s : Classes) (became : Matching) (i : ℕ) (a b : PlanRecord) (parts : DifferingParts)
+    : Type 0 where
   pub class : (parts.class ≡ false) ↔ (b.class ≡ class_after (partner_of s) (turned_at became.turned) a)
   pub attributes : (parts.attributes ≡ false) ↔ IsPermutation a.attributes b.attributes
   pub extras : (parts.extras ≡ false) ↔ (b.extras ≡ a.extras)
@@ -44,7 +45,7 @@ pub record AreChangedParts (s : Classes) (became : Matching) (i : ℕ) (a b : Pl
   pub ends : (parts.ends ≡ false) ↔ HasEndsOf became a b
 
 -- the parts of each record that changed
-abbrev pub ArePartsOfEach : Classes → PlanData → PlanData → Matching → Matching → List Parts → Type 0
+abbrev pub ArePartsOfEach : Classes → PlanData → PlanData → Matching → Matching → List DifferingParts → Type 0
 ArePartsOfEach s p q unchanged became parts =
     (i j : ℕ) → ¬ (IsMatched unchanged.to i) → GoesTo became.to i j
     → AreChangedParts s became i (record_at p i) (record_at q j) (parts_at parts i)

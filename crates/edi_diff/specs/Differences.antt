@@ -7,7 +7,7 @@ use Rattle.edi_matching.specs.Matchings.{MatchingHolds}
 use Rattle.edi_matching.specs.declared.matching.Matching.{Matching}
 use Rattle.edi_report.specs.Located.{IsLocated}
 use Rattle.edi_report.specs.Reports.{Report}
-use Rattle.edi_report.specs.declared.parts.Parts.{Parts}
+use Rattle.edi_report.specs.declared.parts.DifferingParts.{DifferingParts}
 use Rattle.edi_report.specs.declared.sheet.LocatedSheet.{LocatedSheet}
 use Rattle.edi_diff.specs.Changes.{AreChanges, ArePartsOfEach}
 use Rattle.edi_diff.specs.declared.differing.Difference.{Difference}
@@ -16,7 +16,7 @@ use Rattle.edi_diff.specs.declared.form.TextForm.{TextForm}
 use Rattle.edi_diff.specs.Forms.{IsReadByForm, text_of_form}
 
 -- two sheets by their matchings, and the parts in which records that became others differ
-abbrev pub report_by : LocatedSheet → LocatedSheet → Matching → Matching → List Parts → Report
+abbrev pub report_by : LocatedSheet → LocatedSheet → Matching → Matching → List DifferingParts → Report
 report_by first second unchanged became parts =
     record { first = first; second = second; unchanged = unchanged.to; became = became.to; parts = parts }
 
@@ -26,7 +26,7 @@ report_by first second unchanged became parts =
 pub record IsDifferenceText (s : Classes) (first second : LocatedSheet) (unchanged : Matching) (form : TextForm)
     (text : List ℕ) : Type 0 where
   pub became : Matching
-  pub parts : List Parts
+  pub parts : List DifferingParts
   pub changes : AreChanges first.accepted second.accepted unchanged became
   pub are_parts : ArePartsOfEach s first.accepted second.accepted unchanged became parts
   pub is_text : text ≡ text_of_form s form (report_by first second unchanged became parts)

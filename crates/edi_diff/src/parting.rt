@@ -14,7 +14,7 @@ use edi_matching::Matching;
 use edi_matching::places::targets_of;
 use edi_matching::record::all_matched;
 use edi_plan::Plan;
-use edi_report::{NO_PARTS, Parts};
+use edi_report::{DifferingParts, NO_PARTS};
 use edi_schema::Schema;
 use std::alloc::{AllocError, Global};
 use std::marker::Model;
@@ -27,7 +27,7 @@ pub(crate) fn parts_of<'a>(
     other: &'a Plan,
     unchanged: &'a Matching,
     became: &'a Matching,
-) -> Result<Vec<Parts>, AllocError>
+) -> Result<Vec<DifferingParts>, AllocError>
     requires classes { HasClasses schema.now plan.now }
     requires long { length unchanged.now.to ≡ length plan.now.list }
     requires changes { AreChanges plan.now other.now unchanged.now became.now }
@@ -70,7 +70,7 @@ impl<'a> Model for PlanComparison<'a> {
 
 impl<'a> PlanComparison<'a> {
     /// The parts of each record, none for one that is unchanged or became nothing.
-    fn all_parts(&self, alloc: Global) -> Result<Vec<Parts>, AllocError>
+    fn all_parts(&self, alloc: Global) -> Result<Vec<DifferingParts>, AllocError>
         ensures { IfOk result (λ parts. (i j : ℕ) → ¬ (IsMatched self.now.unchanged i) → GoesTo self.now.to i j
             → ArePartsAt self.now i j (parts_at parts.items i)) }
     {
@@ -82,7 +82,7 @@ impl<'a> PlanComparison<'a> {
     }
 
     /// The parts of one record.
-    fn parts_at(&self, alloc: Global, place: u32) -> Result<Parts, AllocError>
+    fn parts_at(&self, alloc: Global, place: u32) -> Result<DifferingParts, AllocError>
         requires { IsPlace self.now.carried.plan place }
         ensures { IfOk result (λ parts. (j : ℕ) → ¬ (IsMatched self.now.unchanged place) → GoesTo self.now.to place j
             → ArePartsAt self.now place j parts) }
@@ -97,7 +97,12 @@ impl<'a> PlanComparison<'a> {
     }
 
     /// The parts in which a record and one of the other plan differ.
-    fn parts_between(&self, alloc: Global, place: u32, target: u32) -> Result<Parts, AllocError>
+    fn parts_between(
+        &self,
+        alloc: Global,
+        place: u32,
+        target: u32,
+    ) -> Result<DifferingParts, AllocError>
         requires place { IsPlace self.now.carried.plan place }
         requires target { IsPlace self.now.carried.other target }
         ensures { IfOk result (ArePartsAt self.now place target) }
@@ -108,7 +113,7 @@ impl<'a> PlanComparison<'a> {
         let extras = carrier.agrees_in(alloc, place, target, RecordPart::Extras)?;
         let points = carrier.agrees_in(alloc, place, target, RecordPart::Points)?;
         let ends = self.has_same_ends(alloc, place, target)?;
-        Ok(Parts {
+        Ok(DifferingParts {
             class: !class,
             attributes: !attributes,
             extras: !extras,

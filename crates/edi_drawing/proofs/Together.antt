@@ -6,13 +6,13 @@ use Rattle.edi_diff.specs.Differences.{AreFindings}
 use Rattle.edi_diff.specs.declared.differing.Findings.{Findings}
 use Rattle.edi_diff.specs.declared.form.TextForm.{TextForm}
 use Rattle.edi_picture.specs.Pictures.{IsPicture}
-use Rattle.edi_drawing.specs.Drawn.{FileNames, IsDrawnDifference, both_sheets}
-use Rattle.edi_drawing.specs.Marked.{Compared}
+use Rattle.edi_drawing.specs.Drawn.{TwoFileNames, IsDrawnDifference, both_sheets}
+use Rattle.edi_drawing.specs.Marked.{SheetPairData}
 
-abbrev pub compared_of : Findings → Compared
+abbrev pub compared_of : Findings → SheetPairData
 compared_of found = record { first = found.first; second = found.second; unchanged = found.unchanged; became = found.became }
 
-pub drawn_by : (s : Classes) (names : FileNames) (a b : List ℕ) (form : TextForm) (found : Findings) (picture : Vec ℕ) → AreFindings s a b form found
+pub drawn_by : (s : Classes) (names : TwoFileNames) (a b : List ℕ) (form : TextForm) (found : Findings) (picture : Vec ℕ) → AreFindings s a b form found
     → IsPicture s (both_sheets s names (compared_of found)) picture.items
     → IsDrawnDifference s names a b form (record { difference = found.difference; picture = picture })
 drawn_by s names a b form found picture are drawn = record {

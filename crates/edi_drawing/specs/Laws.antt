@@ -4,14 +4,14 @@ use Rattle.edi_matching.specs.Matchings.{GoesTo, IsMatched}
 use Rattle.edi_matching.specs.declared.matching.Matching.{Matching}
 use Rattle.edi_report.specs.Lines.{first_line, second_line}
 use Rattle.edi_report.specs.Reports.{Report}
-use Rattle.edi_report.specs.declared.parts.Parts.{Parts}
+use Rattle.edi_report.specs.declared.parts.DifferingParts.{DifferingParts}
 use Rattle.edi_report.specs.declared.sheet.LocatedSheet.{LocatedSheet}
 use Rattle.edi_diff.specs.Changes.{AreChanges}
 use Rattle.edi_picture.specs.declared.mark.Mark.TheVariants.{Plain, OnlySecond, After}
 use Rattle.edi_drawing.specs.Marked.{first_mark, second_mark}
 
 -- what a text of two sheets reports
-abbrev pub report_of : LocatedSheet → LocatedSheet → Matching → Matching → List Parts → Report
+abbrev pub report_of : LocatedSheet → LocatedSheet → Matching → Matching → List DifferingParts → Report
 report_of first second unchanged became parts = record {
   first = first;
   second = second;
@@ -22,12 +22,12 @@ report_of first second unchanged became parts = record {
 
 -- a record of the first sheet is grey exactly if the text has no line for it
 abbrev pub FirstGreyIfUnlisted : Type 0
-FirstGreyIfUnlisted = (first second : LocatedSheet) (unchanged became : Matching) (parts : List Parts) (i : ℕ)
+FirstGreyIfUnlisted = (first second : LocatedSheet) (unchanged became : Matching) (parts : List DifferingParts) (i : ℕ)
     → (first_mark unchanged became i ≡ Plain) ↔ (first_line (report_of first second unchanged became parts) i ≡ [])
 
 -- a record of the second sheet has the colour of those that only it has exactly if the text has a line for it
 abbrev pub SecondAloneIfListed : Type 0
-SecondAloneIfListed = (first second : LocatedSheet) (unchanged became : Matching) (parts : List Parts) (j : ℕ)
+SecondAloneIfListed = (first second : LocatedSheet) (unchanged became : Matching) (parts : List DifferingParts) (j : ℕ)
     → AreChanges first.accepted second.accepted unchanged became
     → (second_mark unchanged became j ≡ OnlySecond)
     ↔ ¬ (second_line (report_of first second unchanged became parts) j ≡ [])

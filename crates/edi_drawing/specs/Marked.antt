@@ -5,7 +5,7 @@ use Rattle.edi_plan.specs.Plans.{PlanData}
 use Rattle.edi_matching.specs.declared.matching.Matching.{Matching}
 use Rattle.edi_report.specs.Lines.{is_reached}
 use Rattle.edi_report.specs.declared.sheet.LocatedSheet.{LocatedSheet}
-use Rattle.edi_picture.specs.Sheets.{Sheet}
+use Rattle.edi_picture.specs.Sheets.{DrawnSheet}
 use Rattle.edi_picture.specs.declared.mark.Mark.{Mark}
 use Rattle.edi_picture.specs.declared.mark.Mark.TheVariants.{Plain, OnlyFirst, OnlySecond, Before, After, Hidden}
 
@@ -30,27 +30,27 @@ abbrev pub of_each : {X : Type 0} → (ℕ → X) → PlanData → List X
 of_each f p = map f (range_with_len 0 (length p.list))
 
 -- two sheets, and what is unchanged of the first in the second and what became of it there
-pub record Compared : Type 0 where
+pub record SheetPairData : Type 0 where
   pub first : LocatedSheet
   pub second : LocatedSheet
   pub unchanged : Matching
   pub became : Matching
 
-abbrev pub first_marks : Compared → List Mark
+abbrev pub first_marks : SheetPairData → List Mark
 first_marks c = of_each (first_mark c.unchanged c.became) c.first.accepted
 
-abbrev pub second_marks : Compared → List Mark
+abbrev pub second_marks : SheetPairData → List Mark
 second_marks c = of_each (second_mark c.unchanged c.became) c.second.accepted
 
 -- the record of the second sheet that one of the first is, if any
-abbrev pub twin_of : Compared → ℕ → Option ℕ
+abbrev pub twin_of : SheetPairData → ℕ → Option ℕ
 twin_of c i = slice_index_or c.unchanged.to i None
 
 -- ---- sheets
 
 -- a sheet with the name of its file and the identifiers that its records have there; and of each record the mark,
 -- whether it is tinted, and what is written on it
-abbrev pub drawn_sheet : List ℕ → LocatedSheet → List Mark → List Bool → List (List ℕ) → Sheet
+abbrev pub drawn_sheet : List ℕ → LocatedSheet → List Mark → List Bool → List (List ℕ) → DrawnSheet
 drawn_sheet name sheet marks tints labels = record {
   plan = sheet.accepted;
   name = name;

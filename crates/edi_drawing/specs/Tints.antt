@@ -7,7 +7,7 @@ use Rattle.edi_plan.specs.Plans.{PlanData, record_at}
 use Rattle.edi_picture.specs.declared.mark.Mark.{Mark}
 use Rattle.edi_picture.specs.declared.mark.Mark.TheVariants.{Plain, OnlyFirst, OnlySecond, Before, After, Hidden}
 use Rattle.edi_drawing.specs.Labels.{names, names_few}
-use Rattle.edi_drawing.specs.Marked.{Compared, first_marks, twin_of, second_marks}
+use Rattle.edi_drawing.specs.Marked.{SheetPairData, first_marks, twin_of, second_marks}
 
 -- a record isn't in both sheets as it is
 abbrev pub stands_out : Mark → Bool
@@ -49,6 +49,6 @@ tint_by Before touched = false
 tint_by After touched = false
 tint_by Hidden touched = false
 
-abbrev pub first_tint : Compared → ℕ → Bool
+abbrev pub first_tint : SheetPairData → ℕ → Bool
 first_tint c i = tint_by (slice_index_or (first_marks c) i Hidden)
     (is_touched (first_marks c) c.first.accepted i || is_touched_there (second_marks c) c.second.accepted (twin_of c i))

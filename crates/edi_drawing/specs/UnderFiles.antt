@@ -4,7 +4,7 @@ use Rattle.edi_schema.specs.Classes.{Classes}
 use Rattle.edi_schema.specs.Roles.{KindCodes}
 use Rattle.edi_schema.specs.SchemaRefusal.{IsGoodSchema}
 use Rattle.edi_compare.specs.Rules.{IsAccepted}
-use Rattle.edi_drawing.specs.Drawn.{FileNames, IsDrawnDifference, IsPictureOfFile}
+use Rattle.edi_drawing.specs.Drawn.{TwoFileNames, IsDrawnDifference, IsPictureOfFile}
 use Rattle.edi_drawing.specs.declared.drawn.DrawnDifference.{DrawnDifference}
 use Rattle.edi_diff.specs.declared.form.TextForm.{TextForm}
 
@@ -16,7 +16,7 @@ pub record IsPictureUnder (kinds : KindCodes) (name scd dic b picture : List ℕ
   pub drawn : IsPictureOfFile schema name b picture
 
 -- both sheets are accepted under that schema, and this is what differs between them, with their picture
-pub record IsDrawnDifferenceUnder (kinds : KindCodes) (names : FileNames) (scd dic a b : List ℕ) (form : TextForm)
+pub record IsDrawnDifferenceUnder (kinds : KindCodes) (names : TwoFileNames) (scd dic a b : List ℕ) (form : TextForm)
     (drawn : DrawnDifference) : Type 0 where
   pub schema : Classes
   pub good : IsGoodSchema scd dic kinds schema

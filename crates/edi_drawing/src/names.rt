@@ -10,9 +10,9 @@ pub struct FileNames<'a> {
 }
 
 impl<'a> Model for FileNames<'a> {
-    ghost use Rattle.edi_drawing.specs.Drawn.{FileNames as Names};
+    ghost use Rattle.edi_drawing.specs.Drawn.{TwoFileNames};
 
-    ghost Value = { Names };
+    ghost Value = { TwoFileNames };
 
     ghost view = { λ n. record { first = n.first.now; second = n.second.now } };
 }

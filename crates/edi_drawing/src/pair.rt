@@ -27,9 +27,9 @@ pub(crate) struct SheetPair<'a> {
 }
 
 impl<'a> Model for SheetPair<'a> {
-    ghost use Rattle.edi_drawing.specs.Marked.{Compared};
+    ghost use Rattle.edi_drawing.specs.Marked.{SheetPairData};
 
-    ghost Value = { Compared };
+    ghost Value = { SheetPairData };
 
     ghost view = { λ c. record {
       first = c.first.now;

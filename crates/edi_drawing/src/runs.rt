@@ -2,7 +2,7 @@
 ghost use Rattle.std.specs.Prelude.{◌≡◌, IfOk, IfErr, OnOk};
 ghost use Rattle.edi_line.specs.FileBytes.{file_bytes};
 ghost use Rattle.edi_compare.specs.Runs.{AfterReading, AreRead, FilesFault, IfThreeKnown, seen};
-ghost use Rattle.edi_compare.specs.inner.Runs.{SheetFault};
+ghost use Rattle.edi_compare.specs.inner.Runs.{OneSheetFault};
 ghost use Rattle.edi_drawing.specs.UnderFiles.{IsPictureUnder};
 
 use crate::drawing::draw_from;
@@ -47,7 +47,7 @@ fn draw_or_fault(
 ) -> Result<Vec<u8>, RunFault>
     ensures ok { IfOk result (λ picture.
         IsPictureUnder kinds.now name.now scd.now dic.now (file_bytes vec.entry) picture.items) }
-    ensures err { IfErr result (SheetFault kinds.now scd.now dic.now (file_bytes vec.entry)) }
+    ensures err { IfErr result (OneSheetFault kinds.now scd.now dic.now (file_bytes vec.entry)) }
 {
     let schema = load_or_fault(alloc, kinds, scd, dic)?;
     match draw_from(alloc, &schema, name, vec) {

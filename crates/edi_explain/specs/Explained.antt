@@ -27,7 +27,7 @@ use Rattle.edi_explain.specs.Texts.{IsRuleText, RuleWords, SaysRule, rule_texts}
 use Rattle.edi_explain.specs.ZoneLines.{ExplainsZone, ExplainsZoneOfSheet}
 use Rattle.edi_plan.specs.declared.extent.Extent.{Extent}
 use Rattle.edi_plan.specs.declared.extent.Span.{Span}
-use Rattle.edi_explain.specs.declared.refused.Refused.{Refused}
+use Rattle.edi_explain.specs.declared.refused.RefusalSites.{RefusalSites}
 use Rattle.edi_explain.specs.declared.text.RuleText.{RuleText}
 use Rattle.edi_shown.specs.Shown.{shown_bytes}
 
@@ -47,7 +47,7 @@ ExplainsLine b name rule at lines = (text : Option RuleText) × (earlier : Optio
 abbrev pub ExplainsPlace : Classes → List ℕ → List ℕ → Fault → List ℕ → Type 0
 ExplainsPlace s b name (Memory e) lines = ⊥
 ExplainsPlace s b name (Line rule at) lines = ExplainsLine b name rule at lines
-ExplainsPlace s b name (Entry rule at) lines = (text : Option RuleText) × (sites : Refused)
+ExplainsPlace s b name (Entry rule at) lines = (text : Option RuleText) × (sites : RefusalSites)
     × IsRuleText rule text × IsRefusedAt s b rule at sites
     × (lines ≡ lines_of_sites name sites (sentence_of text) rule)
 
@@ -80,7 +80,7 @@ ExplainsSchemaPlace kinds scd dic scd_name dic_name (schema.Memory e) lines = �
 ExplainsSchemaPlace kinds scd dic scd_name dic_name (schema.Line file rule at) lines =
     ExplainsLine (of_source file scd dic) (of_source file scd_name dic_name) rule at lines
 ExplainsSchemaPlace kinds scd dic scd_name dic_name (schema.Entry file rule at) lines = (text : Option RuleText)
-    × (sites : Refused) × IsRuleText rule text × IsRowRefusedAt (of_source file scd dic) rule at sites
+    × (sites : RefusalSites) × IsRuleText rule text × IsRowRefusedAt (of_source file scd dic) rule at sites
     × (lines ≡ lines_of_sites (of_source file scd_name dic_name) sites (sentence_of text) rule)
 ExplainsSchemaPlace kinds scd dic scd_name dic_name schema.Kinds lines = ExplainsKinds kinds scd scd_name lines
 

@@ -3,12 +3,12 @@ use Rattle.std.specs.Prelude.{◌≡◌, ◌++◌, ◌||◌, ℕ, Bool, false, L
 use Rattle.std.specs.List.{AllByRecursion, starts_with, ends_with}
 use Rattle.edi_line.specs.Bytes.{line_feed}
 use Rattle.edi_line.specs.Lines.{IsLinesOf}
-use Rattle.edi_explain.specs.declared.hints.Part.{Part}
+use Rattle.edi_explain.specs.declared.hints.DeliveryPart.{DeliveryPart}
 use Rattle.edi_shown.specs.Shown.{shown_bytes}
-use Rattle.edi_explain.specs.declared.hints.Part.TheVariants.{Thf, Gen, Geo, Qal, Scd, Dic, Vec}
+use Rattle.edi_explain.specs.declared.hints.DeliveryPart.TheVariants.{Thf, Gen, Geo, Qal, Scd, Dic, Vec}
 
 -- the part of a delivery whose records are of a type
-abbrev pub part_typed : List ℕ → Option Part
+abbrev pub part_typed : List ℕ → Option DeliveryPart
 part_typed rty =
     if bytes_eq rty (codes "GTS") || bytes_eq rty (codes "GTL") then Some Thf
     else (if bytes_eq rty (codes "DEG") || bytes_eq rty (codes "GSE") then Some Gen
@@ -26,7 +26,7 @@ abbrev pub type_head : List ℕ
 type_head = codes "RTYSA03:"
 
 -- these lines are of a part by the first of them that begins so, and its value
-pub record IsPartAmong (lines : List (List ℕ)) (part : Part) : Type 0 where
+pub record IsPartAmong (lines : List (List ℕ)) (part : DeliveryPart) : Type 0 where
   pub before : List (List ℕ)
   pub value : List ℕ
   pub rest : List ℕ
@@ -37,14 +37,14 @@ pub record IsPartAmong (lines : List (List ℕ)) (part : Part) : Type 0 where
   pub typed : part_typed value ≡ Some part
 
 -- a file is a part by its first line that states a type
-abbrev pub IsPart : List ℕ → Part → Type 0
+abbrev pub IsPart : List ℕ → DeliveryPart → Type 0
 IsPart b part = (lines : List (List ℕ)) × IsLinesOf b lines × IsPartAmong lines part
 
 -- the part that a file is, or it is none
-abbrev pub IsPartIfAny : List ℕ → Option Part → Type 0
-IsPartIfAny b found = MatchOption found ((part : Part) → ¬ (IsPart b part)) (IsPart b)
+abbrev pub IsPartIfAny : List ℕ → Option DeliveryPart → Type 0
+IsPartIfAny b found = MatchOption found ((part : DeliveryPart) → ¬ (IsPart b part)) (IsPart b)
 
-abbrev pub name_of : Part → List ℕ
+abbrev pub name_of : DeliveryPart → List ℕ
 name_of Thf = codes "THF"
 name_of Gen = codes "GEN"
 name_of Geo = codes "GEO"
@@ -77,11 +77,11 @@ end_hint name b =
     if ends_with nat_eq b (text_end ∷ []) then hint_line name (codes " ends in a byte 0x1A, which has to go") else []
 
 -- two parts are one
-abbrev pub same_part : Part → Part → Bool
+abbrev pub same_part : DeliveryPart → DeliveryPart → Bool
 same_part a b = bytes_eq (name_of a) (name_of b)
 
 -- it is another part than the one in whose place it stands
-abbrev pub part_hint : List ℕ → Part → Option Part → List ℕ
+abbrev pub part_hint : List ℕ → DeliveryPart → Option DeliveryPart → List ℕ
 part_hint name wanted None = []
 part_hint name wanted (Some part) = if same_part part wanted then []
     else codes "hint: " ++ shown_bytes name ++ codes " is " ++ name_of part
@@ -125,8 +125,8 @@ form_hint_or name (Some words) others = hint_line name words
 form_hint_or name None others = others
 
 -- the hints on a file in the place of a part
-abbrev pub AreHints : List ℕ → List ℕ → Part → List ℕ → Type 0
-AreHints name b wanted lines = (part : Option Part) × IsPartIfAny b part
+abbrev pub AreHints : List ℕ → List ℕ → DeliveryPart → List ℕ → Type 0
+AreHints name b wanted lines = (part : Option DeliveryPart) × IsPartIfAny b part
     × (lines ≡ form_hint_or name (form_words b) (mark_hint name b ++ end_hint name b ++ part_hint name wanted part))
 
 -- the hints on the three files of a sheet, one after the other

@@ -16,7 +16,7 @@ use Rattle.edi_explain.specs.Sites.{IsSiteIfAny}
 use Rattle.edi_explain.specs.declared.kind_causes.KindsCase.{KindsCase}
 use Rattle.edi_explain.specs.declared.kind_causes.KindsCase.TheVariants.{Two, Alone, Barred}
 use Rattle.edi_explain.specs.declared.kind_causes.KindsCause.{KindsCause}
-use Rattle.edi_explain.specs.declared.refused.Refused.{Refused}
+use Rattle.edi_explain.specs.declared.refused.RefusalSites.{RefusalSites}
 use Rattle.edi_explain.specs.declared.site.RecordSite.{RecordSite}
 use Rattle.edi_shown.specs.Shown.{shown_bytes}
 
@@ -40,7 +40,7 @@ wrong_words Barred role =
 -- first, with what is wrong, and that of the earlier class of its kind where there are two.
 abbrev pub ExplainsKinds : KindCodes → List ℕ → List ℕ → List ℕ → Type 0
 ExplainsKinds kinds scd name lines =
-    (zones : List ZoneData) × (cause : KindsCause) × (sites : Refused) × IsZonesOf scd zones
+    (zones : List ZoneData) × (cause : KindsCause) × (sites : RefusalSites) × IsZonesOf scd zones
     × IsKindsCause (groups_of zones) kinds cause × AreSites zones cause.number cause.earlier sites
     × (lines ≡ lines_of_sites name sites (wrong_words cause.case cause.role) 604)
 

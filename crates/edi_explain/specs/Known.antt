@@ -1,7 +1,7 @@
 -- Known texts of what explains a refusal.
 use Rattle.std.specs.Prelude.{◌≡◌, ℕ, List, Some, None, codes}
 use Rattle.edi_explain.specs.Explained.{rule_page}
-use Rattle.edi_explain.specs.declared.refused.Refused.{Refused}
+use Rattle.edi_explain.specs.declared.refused.RefusalSites.{RefusalSites}
 use Rattle.edi_explain.specs.declared.text.RuleText.{RuleText}
 
 -- a text with these five parts
@@ -22,7 +22,7 @@ KnownPage =
     ≡ codes "106: there is no EOM\nWhy: A file has an end.\nUsual cause: It was cut.\nWhat to do: Export it again.\n"
 
 -- a node that begins in line 12, and an earlier one that begins in line 3 and has no identifier
-abbrev pub known_sites : Refused
+abbrev pub known_sites : RefusalSites
 known_sites = record {
   here = Some (record { line = 12; rty = codes "PNO"; rid = Some (codes "N2") });
   earlier = Some (record { line = 3; rty = codes "PNO"; rid = None });

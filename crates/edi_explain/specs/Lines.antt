@@ -1,7 +1,7 @@
 -- The lines that say where something is refused and why.
 use Rattle.std.specs.Prelude.{◌++◌, ◌==◌, ℕ, List, [], ◌∷◌, Option, Some, None, codes, decimal, if◌then◌else◌}
 use Rattle.edi_line.specs.Bytes.{line_feed}
-use Rattle.edi_explain.specs.declared.refused.Refused.{Refused}
+use Rattle.edi_explain.specs.declared.refused.RefusalSites.{RefusalSites}
 use Rattle.edi_explain.specs.declared.site.RecordSite.{RecordSite}
 use Rattle.edi_explain.specs.declared.text.RuleText.{RuleText}
 use Rattle.edi_shown.specs.Shown.{shown_bytes}
@@ -60,6 +60,6 @@ earlier_sentence rule =
     else codes "the earlier record"
 
 -- the line of a refused record, and that of the earlier one
-abbrev pub lines_of_sites : List ℕ → Refused → List ℕ → ℕ → List ℕ
+abbrev pub lines_of_sites : List ℕ → RefusalSites → List ℕ → ℕ → List ℕ
 lines_of_sites name sites sentence rule =
     line_of_site name sites.here sentence rule ++ line_of_site name sites.earlier (earlier_sentence rule) rule

@@ -5,7 +5,7 @@ use Rattle.edi_line.specs.Refusal.{IsLeastBroken, IsUnbroken}
 use Rattle.edi_explain.specs.Cuts.{ShowsCut, cut_hint}
 use Rattle.edi_explain.specs.Hints.{AreHints}
 use Rattle.edi_explain.specs.Lengths.{CountsCharacters, length_hint}
-use Rattle.edi_explain.specs.declared.hints.Part.TheVariants.{Vec}
+use Rattle.edi_explain.specs.declared.hints.DeliveryPart.TheVariants.{Vec}
 
 -- the hints on the line with which the file b breaks a rule: that its length counts characters, where it breaks 103,
 -- and that the file was cut in it

@@ -13,7 +13,7 @@ use Rattle.edi_rank.specs.EqualObjects.{IsEqualObject}
 use Rattle.edi_explain.specs.Partners.{HasEnd, SharesName}
 use Rattle.edi_explain.specs.RowPartners.{SharesRowName}
 use Rattle.edi_explain.specs.Sites.{IsSiteIfAny}
-use Rattle.edi_explain.specs.declared.refused.Refused.{Refused}
+use Rattle.edi_explain.specs.declared.refused.RefusalSites.{RefusalSites}
 use Rattle.edi_explain.specs.declared.site.RecordSite.{RecordSite}
 
 -- The earlier record of a sheet that a rule speaks of at a place, or none; places are from 0. It is the least that
@@ -39,19 +39,19 @@ IsSiteAtIfAny zones (Some place) found = IsSiteIfAny zones (suc place) found
 IsSiteAtIfAny zones None found = found ≡ None
 
 -- where the record of this number stands, and the one at an earlier place
-pub record AreSites (zones : List ZoneData) (number : ℕ) (earlier : Option ℕ) (sites : Refused) : Type 0 where
+pub record AreSites (zones : List ZoneData) (number : ℕ) (earlier : Option ℕ) (sites : RefusalSites) : Type 0 where
   pub here : IsSiteIfAny zones number sites.here
   pub earlier_site : IsSiteAtIfAny zones earlier sites.earlier
 
 -- where the record of a refusal of the sheet b stands, and the earlier record that its rule speaks of; numbers are from
 -- 1
-abbrev pub IsRefusedAt : Classes → List ℕ → ℕ → ℕ → Refused → Type 0
+abbrev pub IsRefusedAt : Classes → List ℕ → ℕ → ℕ → RefusalSites → Type 0
 IsRefusedAt s b rule number sites =
     (zones : List ZoneData) × (earlier : Option ℕ) × IsZonesOf b zones × IsEarlierIfAny s b rule (number - 1) earlier
     × AreSites zones number earlier sites
 
 -- the same in a file of a schema
-abbrev pub IsRowRefusedAt : List ℕ → ℕ → ℕ → Refused → Type 0
+abbrev pub IsRowRefusedAt : List ℕ → ℕ → ℕ → RefusalSites → Type 0
 IsRowRefusedAt b rule number sites =
     (zones : List ZoneData) × (earlier : Option ℕ) × IsZonesOf b zones × IsEarlierRowIfAny zones rule (number - 1) earlier
     × AreSites zones number earlier sites

@@ -14,7 +14,7 @@ ghost use Rattle.edi_explain.specs.KindClasses.{codes_of};
 ghost use Rattle.edi_explain.specs.Lines.{lines_of_sites, sentence_of};
 ghost use Rattle.edi_explain.specs.Refusals.{AreSites, IsEarlierIfAny, IsRowRefusedAt};
 ghost use Rattle.edi_explain.specs.inner.Found.{AreFound};
-ghost use Rattle.edi_explain.specs.declared.refused.Refused.{Refused as Sites};
+ghost use Rattle.edi_explain.specs.declared.refused.RefusalSites.{RefusalSites as Sites};
 ghost use Rattle.edi_explain.specs.Texts.{IsRuleText};
 ghost use Rattle.edi_explain.specs.ZoneLines.{ExplainsZone};
 ghost use Rattle.edi_explain.specs.declared.text.RuleText.{RuleText as Texts};

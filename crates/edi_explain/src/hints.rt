@@ -11,7 +11,7 @@ use std::alloc::{AllocError, Global};
 
 /// Which file of a delivery a file is.
 #[derive(Clone, Copy, PartialEq, Eq)]
-pub enum Part {
+pub enum DeliveryPart {
     /// The list of what is delivered.
     Thf,
     /// What the sheet covers, and its parts.
@@ -56,23 +56,23 @@ const HIGH_FIRST: [u8; 2] = [0xFE, 0xFF];
 const TYPE_HEAD: [u8; 8] = *b"RTYSA03:";
 
 /// The part of a delivery whose records are of a type (docs/FORMAT.md, "Hints").
-pub fn part_of_type(rty: &[u8]) -> Option<Part>
+pub fn part_of_type(rty: &[u8]) -> Option<DeliveryPart>
     ensures { result ≡ part_typed rty.now }
 {
     match rty {
-        b"GTS" | b"GTL" => Some(Part::Thf),
-        b"DEG" | b"GSE" => Some(Part::Gen),
-        b"GEO" | b"RPR" => Some(Part::Geo),
-        b"QUP" => Some(Part::Qal),
-        b"OBJ" | b"PGE" | b"REL" | b"ATT" => Some(Part::Scd),
-        b"DID" | b"DIA" | b"DIR" => Some(Part::Dic),
-        b"PNO" | b"PAR" | b"PFE" | b"FEA" | b"LNK" => Some(Part::Vec),
+        b"GTS" | b"GTL" => Some(DeliveryPart::Thf),
+        b"DEG" | b"GSE" => Some(DeliveryPart::Gen),
+        b"GEO" | b"RPR" => Some(DeliveryPart::Geo),
+        b"QUP" => Some(DeliveryPart::Qal),
+        b"OBJ" | b"PGE" | b"REL" | b"ATT" => Some(DeliveryPart::Scd),
+        b"DID" | b"DIA" | b"DIR" => Some(DeliveryPart::Dic),
+        b"PNO" | b"PAR" | b"PFE" | b"FEA" | b"LNK" => Some(DeliveryPart::Vec),
         _ => None,
     }
 }
 
 /// The part of a delivery whose records are of the type that a line states, in the three bytes behind `RTYSA03:`.
-fn part_of_line(line: &[u8]) -> Option<Part>
+fn part_of_line(line: &[u8]) -> Option<DeliveryPart>
     ensures { result ≡ part_typed (take 3 (drop 8 line.now)) }
 {
     match line.get(8..11) {
@@ -83,7 +83,7 @@ fn part_of_line(line: &[u8]) -> Option<Part>
 
 /// The part of a delivery that a file is by its first line that begins `RTYSA03:`; `None` where it has none, or one of
 /// another type. The bytes behind that line are not looked at.
-pub fn part_of(bytes: &[u8]) -> Option<Part>
+pub fn part_of(bytes: &[u8]) -> Option<DeliveryPart>
     ensures { IsPartIfAny bytes.now result }
 {
     let mut rest = bytes;
@@ -98,17 +98,17 @@ pub fn part_of(bytes: &[u8]) -> Option<Part>
 }
 
 /// What a part is called.
-fn name_of(part: Part) -> &'static str
+fn name_of(part: DeliveryPart) -> &'static str
     ensures { result.now ≡ name_of_part part }
 {
     match part {
-        Part::Thf => "THF",
-        Part::Gen => "GEN",
-        Part::Geo => "GEO",
-        Part::Qal => "QAL",
-        Part::Scd => "SCD",
-        Part::Dic => "DIC",
-        Part::Vec => "VEC",
+        DeliveryPart::Thf => "THF",
+        DeliveryPart::Gen => "GEN",
+        DeliveryPart::Geo => "GEO",
+        DeliveryPart::Qal => "QAL",
+        DeliveryPart::Scd => "SCD",
+        DeliveryPart::Dic => "DIC",
+        DeliveryPart::Vec => "VEC",
     }
 }
 
@@ -182,8 +182,8 @@ fn form_words(bytes: &[u8]) -> Option<&'static str>
 fn push_part(
     text: &mut Vec<u8>,
     name: &[u8],
-    wanted: Part,
-    part: Option<Part>,
+    wanted: DeliveryPart,
+    part: Option<DeliveryPart>,
 ) -> Result<(), AllocError>
     ensures { OnOk result (text.new.items ≡ text.old.items ++ part_hint name.now wanted part) }
 {
@@ -199,7 +199,11 @@ fn push_part(
 }
 
 /// Appends which part a file is, and in whose place it stands.
-fn push_mistaken(text: &mut Vec<u8>, wanted: Part, part: Part) -> Result<(), AllocError>
+fn push_mistaken(
+    text: &mut Vec<u8>,
+    wanted: DeliveryPart,
+    part: DeliveryPart,
+) -> Result<(), AllocError>
     ensures { OnOk result (text.new.items
         ≡ text.old.items ++ (codes " is " ++ name_of_part part ++ codes " by its first record, and was given as "
         ++ name_of_part wanted ++ line_feed ∷ [])) }
@@ -215,8 +219,8 @@ fn push_mistaken(text: &mut Vec<u8>, wanted: Part, part: Part) -> Result<(), All
 fn push_others(
     text: &mut Vec<u8>,
     file: &NamedFile<'_>,
-    wanted: Part,
-    part: Option<Part>,
+    wanted: DeliveryPart,
+    part: Option<DeliveryPart>,
 ) -> Result<(), AllocError>
     ensures { OnOk result (text.new.items ≡ text.old.items ++ (mark_hint file.now.name.now file.now.bytes.now
         ++ end_hint file.now.name.now file.now.bytes.now ++ part_hint file.now.name.now wanted part)) }
@@ -228,7 +232,11 @@ fn push_others(
 
 /// The lines that name the usual causes of a refusal that a file shows, where it stands in the place of a part:
 /// that it can't be read as it is; or else the others.
-pub fn hints_on(alloc: Global, file: &NamedFile<'_>, wanted: Part) -> Result<Vec<u8>, AllocError>
+pub fn hints_on(
+    alloc: Global,
+    file: &NamedFile<'_>,
+    wanted: DeliveryPart,
+) -> Result<Vec<u8>, AllocError>
     ensures { IfOk result (λ lines. AreHints file.now.name.now file.now.bytes.now wanted lines.items) }
 {
     let part = part_of(file.bytes);
@@ -251,9 +259,9 @@ pub fn hints_of(
         AreHintsOfSheet scd.now.name.now scd.now.bytes.now dic.now.name.now dic.now.bytes.now vec.now.name.now
         vec.now.bytes.now lines.items) }
 {
-    let mut lines = hints_on(alloc, scd, Part::Scd)?;
-    let of_dic = hints_on(alloc, dic, Part::Dic)?;
-    let of_vec = hints_on(alloc, vec, Part::Vec)?;
+    let mut lines = hints_on(alloc, scd, DeliveryPart::Scd)?;
+    let of_dic = hints_on(alloc, dic, DeliveryPart::Dic)?;
+    let of_vec = hints_on(alloc, vec, DeliveryPart::Vec)?;
     lines.extend_from_slice(&of_dic)?;
     lines.extend_from_slice(&of_vec)?;
     Ok(lines)

@@ -43,12 +43,12 @@ pub use examined::{Found, examine};
 pub use explained::{
     NamedFile, describe_plan, explain_schema, explain_sheet, page_of, rule_of_word,
 };
-pub use hints::{Part, hints_of, hints_on, part_of, part_of_type};
+pub use hints::{DeliveryPart, hints_of, hints_on, part_of, part_of_type};
 pub use kind_causes::{KindsCase, KindsCause, kinds_cause};
 pub use kind_lines::{describe_kinds, lacking_kinds};
 pub use listing::{push_line_rule, push_record_rule, sites_of_all};
 pub use refusal_hints::hints_on_refused;
-pub use refused::Refused;
+pub use refused::RefusalSites;
 pub use rows::row_namesake;
 pub use rules::list_rules;
 pub use site::RecordSite;

@@ -4,7 +4,7 @@ ghost use Rattle.std.specs.Prelude.{◌≡◌, ◌++◌, IfOk, OnOk, codes};
 ghost use Rattle.edi_explain.specs.Lines.{barring_text, earlier_sentence, identifier_text, line_line, line_of_site, lines_of_line, lines_of_sites, position_text, record_line, rule_mark};
 ghost use Rattle.edi_shown.specs.Shown.{shown_bytes};
 
-use crate::refused::Refused;
+use crate::refused::RefusalSites;
 use crate::site::RecordSite;
 use edi_line::push_number;
 use edi_shown::push_shown;
@@ -178,7 +178,7 @@ fn sentence_of_earlier(rule: u16) -> &'static [u8]
 pub(crate) fn lines_of_refused(
     alloc: Global,
     name: &[u8],
-    sites: &Refused,
+    sites: &RefusalSites,
     sentence: &[u8],
     rule: u16,
 ) -> Result<Vec<u8>, AllocError>

@@ -7,7 +7,7 @@ ghost use Rattle.edi_explain.specs.RefusalHints.{AreRefusalHints, HintAtLine, Hi
 
 use crate::cuts::{push_cut_hint, shows_cut};
 use crate::explained::NamedFile;
-use crate::hints::{Part, hints_on};
+use crate::hints::{DeliveryPart, hints_on};
 use crate::lengths::{counts_characters, push_length_hint};
 use edi_line::{LineFault, read_groups};
 use edi_record::NoObserver;
@@ -59,7 +59,7 @@ pub fn hints_on_refused(alloc: Global, file: &NamedFile<'_>) -> Result<Vec<u8>, 
     ensures { IfOk result (λ lines. AreRefusalHints file.now.name.now file.now.bytes.now lines.items) }
 {
     let mut lines = hints_at_lines(alloc, file)?;
-    let of_file = hints_on(alloc, file, Part::Vec)?;
+    let of_file = hints_on(alloc, file, DeliveryPart::Vec)?;
     lines.extend_from_slice(&of_file)?;
     Ok(lines)
 }

@@ -16,7 +16,7 @@ use std::alloc::{AllocError, Global};
 
 /// Where the record of a refusal stands, and the earlier record that its rule speaks of.
 #[derive(Drop)]
-pub struct Refused {
+pub struct RefusalSites {
     pub here: Option<RecordSite>,
     pub earlier: Option<RecordSite>,
 }
@@ -59,11 +59,11 @@ pub(crate) fn records_in<'a, 'b>(
 pub(crate) fn sites_of_records(
     alloc: Global,
     records: &FoundRecords<'_, '_>,
-) -> Result<Refused, AllocError>
+) -> Result<RefusalSites, AllocError>
     ensures { IfOk result (λ sites. (zones : List ZoneData) (number : ℕ) (earlier : Option ℕ)
         → AreFound zones number earlier records.now → AreSites zones number earlier sites) }
 {
-    Ok(Refused {
+    Ok(RefusalSites {
         here: site_if_found(alloc, records.here)?,
         earlier: site_if_found(alloc, records.earlier)?,
     })
@@ -75,7 +75,7 @@ pub(crate) fn sites_of(
     zones: &[Zone<'_>],
     number: u64,
     earlier: Option<u64>,
-) -> Result<Refused, AllocError>
+) -> Result<RefusalSites, AllocError>
     ensures { IfOk result (AreSites (entries zones.now) number earlier) }
 {
     sites_of_records(alloc, &records_in(zones, number, earlier))

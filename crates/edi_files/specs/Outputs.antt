@@ -27,8 +27,8 @@ abbrev pub IsUnmade : (D : Type 0) → Type 0 → (D → Bool) → Type 0
 IsUnmade D unwritable failed = unwritable ⊎ ((file : D) × IsTrue (failed file))
 
 -- why so many bytes went out and no more: none, since the file was not made; or the first ones, to a stream that failed
-abbrev pub Stops : (S : Type 0) → Type 0 → (S → Type 0) → (S → Option (List ℕ)) → (S → Bool) → ℕ → List ℕ → Type 0
-Stops S unmade opened contents failed count bytes =
+abbrev pub StopsAfter : (S : Type 0) → Type 0 → (S → Type 0) → (S → Option (List ℕ)) → (S → Bool) → ℕ → List ℕ → Type 0
+StopsAfter S unmade opened contents failed count bytes =
     ((count ≡ 0) × unmade) ⊎ ((count ≤ length bytes) × PoursFirst S opened contents failed count bytes)
 
 -- at the path there are whole bytes of this kind; or it is another, and one that was spare

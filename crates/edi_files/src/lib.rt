@@ -16,4 +16,4 @@ pub use listing::Listing;
 pub use product::Product;
 pub use progress::Progress;
 pub use reason::{Reason, push_reason, reason_text};
-pub use system::{CommandLine, Errors, Words};
+pub use system::{CommandLine, Errors, WordSource};

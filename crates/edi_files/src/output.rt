@@ -3,7 +3,7 @@ ghost use Rattle.std.specs.Prelude.{◌≡◌, ◌≤◌, ℕ, Option, IfErr, On
 ghost use Rattle.std.specs.Io.KnownBytes.{Appends};
 ghost use Rattle.edi_compare.specs.Runs.{BeforeWriting, MatchFault};
 ghost use Rattle.edi_files.specs.Folders.{Goes, IsSpare};
-ghost use Rattle.edi_files.specs.Outputs.{IsFilled, IsUnmade, IsWholeOrNew, Pours, Reaches, Stops};
+ghost use Rattle.edi_files.specs.Outputs.{IsFilled, IsUnmade, IsWholeOrNew, Pours, Reaches, StopsAfter};
 
 use crate::folder::{Destination, FileDraft, Folder, OutFault};
 use edi_compare::RunFault;
@@ -15,7 +15,7 @@ pub fn put<F: Folder>(folder: &mut F, path: &str, bytes: &[u8]) -> Result<(), Ru
     ensures ok { OnOk result (Reaches F.Sink (F.holds folder.new path.now) (F.sinks folder.old path.now)
         (F.ends folder.new path.now) F.Sink.contents bytes.now) }
     ensures err { IfErr result (λ e. MatchFault e (λ _. ⊥) (λ _. ⊥) (λ _. ⊥) (λ _. ⊥) (λ _. ⊥)
-        (λ count. Stops F.Sink (IsUnmade F.NewFile (F.unwritable folder.new path.now) F.NewFile.has_failed)
+        (λ count. StopsAfter F.Sink (IsUnmade F.NewFile (F.unwritable folder.new path.now) F.NewFile.has_failed)
         (F.sinks folder.old path.now) F.Sink.contents F.Sink.has_failed count bytes.now)) }
     ensures unmade { IfErr result (λ e. BeforeWriting e (folder.new ≡ folder.old)) }
     ensures replaced { F.tells folder.old
@@ -68,7 +68,7 @@ fn pour<F: Folder>(folder: &F, path: &str, bytes: &[u8]) -> Result<(), RunFault>
     ensures ok { OnOk result
         (Pours F.Sink (F.sinks folder.now path.now) (F.ends folder.now path.now) F.Sink.contents bytes.now) }
     ensures err { IfErr result (λ e. MatchFault e (λ _. ⊥) (λ _. ⊥) (λ _. ⊥) (λ _. ⊥) (λ _. ⊥)
-        (λ count. Stops F.Sink (F.unwritable folder.now path.now) (F.sinks folder.now path.now) F.Sink.contents
+        (λ count. StopsAfter F.Sink (F.unwritable folder.now path.now) (F.sinks folder.now path.now) F.Sink.contents
         F.Sink.has_failed count bytes.now)) }
 {
     let Some(mut sink) = folder.sink(path) else {

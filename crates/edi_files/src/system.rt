@@ -10,7 +10,7 @@ use std::time::Clock;
 use std::{env, io};
 
 /// Where the words of a command line come from, of which the first is the program's name.
-pub trait Words {
+pub trait WordSource {
     /// The words that are given.
     ghost gives: { Self → List (List ℕ) → Type 0 };
 
@@ -25,7 +25,7 @@ pub struct CommandLine<'a, R> {
     pub rt: &'a R,
 }
 
-impl<R: Env + AllocGlobal> Words for CommandLine<'_, R> {
+impl<R: Env + AllocGlobal> WordSource for CommandLine<'_, R> {
     ghost gives = { λ _ _. ⊤ };
 
     fn words(&self) -> io::Result<Vec<String>> {

@@ -6,7 +6,7 @@ use Rattle.json.specs.Json.{Items, max_depth}
 use Rattle.json.specs.Token.{Token}
 use Rattle.json.specs.Tree.{depth, items_depth, items_tokens, json_tokens}
 use Rattle.edi_record.specs.declared.record.Kind.{Kind}
-use Rattle.edi_report.specs.declared.parts.Parts.{Parts}
+use Rattle.edi_report.specs.declared.parts.DifferingParts.{DifferingParts}
 use Rattle.edi_report.specs.declared.site.Site.{Site}
 use Rattle.edi_json.specs.Values.{charsets_value, counts_value, name_if, part_names, record_value, site_or_null, text_or_null}
 use Rattle.edi_json.specs.inner.Tokens.{name_tokens}
@@ -22,18 +22,18 @@ name_shallow : (said : Bool) (name : List ℕ) (names : Items) → items_depth (
 name_shallow true name names = omega arith
 name_shallow false name names = refl
 
-pub names_tokens : (parts : Parts) → items_tokens (part_names parts) ≡ name_tokens parts.class (codes "class") ++ name_tokens parts.attributes (codes "attributes")
+pub names_tokens : (parts : DifferingParts) → items_tokens (part_names parts) ≡ name_tokens parts.class (codes "class") ++ name_tokens parts.attributes (codes "attributes")
     ++ name_tokens parts.extras (codes "extras") ++ name_tokens parts.points (codes "points") ++ name_tokens parts.ends (codes "ends") ++ Token.end_array ∷ []
 names_tokens parts = simp (name_said, append_assoc) refl
 
-names_shallow : (parts : Parts) → items_depth (part_names parts) ≡ 0
+names_shallow : (parts : DifferingParts) → items_depth (part_names parts) ≡ 0
 names_shallow parts = simp name_shallow refl
 
 plain_name : (said : Bool) (name : List ℕ) (names : Items) → AllByRecursion IsPlainToken (items_tokens names) → AllByRecursion IsPlainToken (items_tokens (name_if said name names))
 plain_name true name names h = (tt, h)
 plain_name false name names h = h
 
-plain_names : (parts : Parts) → AllByRecursion IsPlainToken (items_tokens (part_names parts))
+plain_names : (parts : DifferingParts) → AllByRecursion IsPlainToken (items_tokens (part_names parts))
 plain_names parts =
     plain_name parts.class _ _ (plain_name parts.attributes _ _ (plain_name parts.extras _ _ (plain_name parts.points _ _ (plain_name parts.ends _ _ (tt, tt)))))
 
@@ -47,14 +47,14 @@ site_shallow : (site : Option Site) → depth (site_or_null site) ≤ 2
 site_shallow None = omega arith
 site_shallow (Some site) = omega arith
 
-pub record_plain : (mark : List ℕ) (kind : Kind) (a b : Option Site) (parts : Parts) → AllByRecursion IsPlainToken (json_tokens (record_value mark kind a b parts))
+pub record_plain : (mark : List ℕ) (kind : Kind) (a b : Option Site) (parts : DifferingParts) → AllByRecursion IsPlainToken (json_tokens (record_value mark kind a b parts))
 record_plain mark kind a b parts =
     let behind = each_of_both IsPlainToken (items_tokens (part_names parts)) (Token.end_object ∷ []) (plain_names parts) (tt, tt) in
     let there = each_of_both IsPlainToken (json_tokens (site_or_null b)) _ (site_plain b) (tt, (tt, behind)) in
     let here = each_of_both IsPlainToken (json_tokens (site_or_null a)) _ (site_plain a) (tt, there) in
     (tt, (tt, (plain_decimal 1, (tt, (tt, (tt, (tt, (tt, (tt, (tt, here))))))))))
 
-pub record_shallow : (mark : List ℕ) (kind : Kind) (a b : Option Site) (parts : Parts) → depth (record_value mark kind a b parts) ≤ max_depth
+pub record_shallow : (mark : List ℕ) (kind : Kind) (a b : Option Site) (parts : DifferingParts) → depth (record_value mark kind a b parts) ≤ max_depth
 record_shallow mark kind a b parts = omega (arith, site_shallow a, site_shallow b, names_shallow parts)
 
 -- ---- character sets and counts

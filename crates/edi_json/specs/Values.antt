@@ -7,7 +7,7 @@ use Rattle.edi_record.specs.declared.record.Kind.{Kind}
 use Rattle.edi_plan.specs.Plans.{record_at}
 use Rattle.edi_report.specs.Lines.{added_count, changed_count, gone_count}
 use Rattle.edi_report.specs.Reports.{Report, no_parts, parts_at, site_at}
-use Rattle.edi_report.specs.declared.parts.Parts.{Parts}
+use Rattle.edi_report.specs.declared.parts.DifferingParts.{DifferingParts}
 use Rattle.edi_report.specs.declared.site.Site.{Site}
 use Rattle.edi_json.specs.Listed.{Listed, gone, changed, added, listed}
 
@@ -43,14 +43,14 @@ abbrev pub name_if : Bool → List ℕ → Items → Items
 name_if said name names = if said then item (string name) names else names
 
 -- the names of the parts that differ
-abbrev pub part_names : Parts → Items
+abbrev pub part_names : DifferingParts → Items
 part_names parts = name_if parts.class (codes "class") (name_if parts.attributes (codes "attributes")
     (name_if parts.extras (codes "extras") (name_if parts.points (codes "points")
     (name_if parts.ends (codes "ends") no_items))))
 
 -- a record: in which sheet it stands or that it changed, its type, where it stands in A and in B, and the parts that
 -- differ
-abbrev pub record_value : List ℕ → Kind → Option Site → Option Site → Parts → Json
+abbrev pub record_value : List ℕ → Kind → Option Site → Option Site → DifferingParts → Json
 record_value mark kind a b parts = line_value (codes "record") (member (codes "mark") (string mark)
     (member (codes "type") (text_value (kind_code kind)) (member (codes "a") (site_or_null a)
     (member (codes "b") (site_or_null b) (member (codes "parts") (array (part_names parts)) no_members)))))

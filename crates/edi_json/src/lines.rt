@@ -11,7 +11,7 @@ ghost use Rattle.edi_json.specs.inner.Lines.{HasLines, value_of_line};
 
 use crate::members::{begin, begin_record, end_record, put_bytes_or_null, put_number, put_site};
 use edi_record::Kind;
-use edi_report::{Parts, Reporter, Site};
+use edi_report::{DifferingParts, Reporter, Site};
 use json::Writer;
 use std::alloc::{AllocError, Global};
 use std::mem::replace;
@@ -45,7 +45,7 @@ pub(crate) struct RecordLine<'a> {
     pub(crate) a: Option<&'a Site>,
     pub(crate) b: Option<&'a Site>,
     /// The parts in which it differs.
-    pub(crate) parts: Parts,
+    pub(crate) parts: DifferingParts,
 }
 
 /// Appends the line of a record.

@@ -9,7 +9,7 @@ ghost use Rattle.edi_json.specs.Members.{member_tokens, opening_tokens};
 ghost use Rattle.edi_json.specs.inner.Tokens.{name_tokens, record_tokens};
 
 use edi_record::Kind;
-use edi_report::{Parts, Site};
+use edi_report::{DifferingParts, Site};
 use json::Writer;
 use std::alloc::{AllocError, Global};
 
@@ -135,7 +135,7 @@ fn put_name(writer: &mut Writer, said: bool, name: &str) -> Result<(), AllocErro
 }
 
 /// Appends the names of the parts that differ.
-fn put_names(writer: &mut Writer, parts: &Parts) -> Result<(), AllocError>
+fn put_names(writer: &mut Writer, parts: &DifferingParts) -> Result<(), AllocError>
     ensures before { writer.new.before ≡ writer.old.before }
     ensures tokens { OnOk result (writer.new.tokens ≡ writer.old.tokens ++ (name_tokens parts.now.class (codes "class")
         ++ name_tokens parts.now.attributes (codes "attributes") ++ name_tokens parts.now.extras (codes "extras")
@@ -149,7 +149,7 @@ fn put_names(writer: &mut Writer, parts: &Parts) -> Result<(), AllocError>
 }
 
 /// Appends the parts in which a record differs, and ends its line.
-pub(crate) fn end_record(writer: &mut Writer, parts: &Parts) -> Result<(), AllocError>
+pub(crate) fn end_record(writer: &mut Writer, parts: &DifferingParts) -> Result<(), AllocError>
     ensures before { writer.new.before ≡ writer.old.before }
     ensures tokens { OnOk result (writer.new.tokens ≡ writer.old.tokens
         ++ (member_tokens (codes "parts") (array (part_names parts.now)) ++ end_object ∷ [])) }

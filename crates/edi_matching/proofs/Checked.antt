@@ -8,7 +8,7 @@ use Rattle.edi_plan.specs.declared.record.PlanEnd.{PlanEnd}
 use Rattle.edi_rank.specs.Labelling.{turned_at}
 use Rattle.edi_matching.specs.Matchings.{GoesTo, IsMatched, MatchingHolds}
 use Rattle.edi_matching.specs.inner.Marks.{GoApart}
-use Rattle.edi_matching.specs.inner.Proposals.{Proposal, HoldsAt, IsCarriedOnto, proposal_of}
+use Rattle.edi_matching.specs.inner.Proposals.{ProposedMatching, HoldsAt, IsCarriedOnto, proposal_of}
 use Rattle.edi_matching.specs.declared.matching.Matching.{Matching}
 use Rattle.edi_matching.proofs.Totals.{goes_within}
 
@@ -35,7 +35,7 @@ matched_more to ends i x h is matched all = (λ left. all.0 (back (here, left)),
 
 -- what is asked of a record that goes somewhere
 
-pub holds_known : {E : Type 0} (m : Proposal) (i j : ℕ) → GoesTo m.to i j → (turned_at m.turned i ≡ true → (record_at m.plan i).kind ≡ Par)
+pub holds_known : {E : Type 0} (m : ProposedMatching) (i j : ℕ) → GoesTo m.to i j → (turned_at m.turned i ≡ true → (record_at m.plan i).kind ≡ Par)
     → AllByRecursion (λ e. IsMatched m.to e.target) (record_at m.plan i).ends → (r : Result Bool E)
     → IfOk r (λ answer. IsTrue answer ↔ IsCarriedOnto m i j) → IfOk r (λ answer. IsTrue answer ↔ HoldsAt m i)
 holds_known m i j goes arc ends (Err e) contents = tt

@@ -24,7 +24,7 @@ use Rattle.edi_matching.specs.Matchings.{GoesTo, IsMatched, MatchingHolds, targe
 use Rattle.edi_matching.specs.declared.matching.Matching.{Matching}
 use Rattle.edi_matching.specs.inner.Faces.{HasBeside, IsLeftFor}
 use Rattle.edi_matching.specs.inner.Links.{AddsOnly, AreReached, IsFreeFor, matching_so}
-use Rattle.edi_matching.specs.inner.Proposals.{Proposal}
+use Rattle.edi_matching.specs.inner.Proposals.{ProposedMatching}
 use Rattle.edi_matching.proofs.RecordsAdded.{AreAdded, carried_alike, last_or, matched_after, none_added, one_added, unmarked, went_here}
 
 -- a face has no ends, so it is carried by all renamings or by none
@@ -78,7 +78,7 @@ faces_stay kind other s p q whole joined role side m n adds matched arc f g b mi
     })
 
 -- of one role an arc and the one that it goes to have two at most
-pub one_beside : (m : Proposal) → IsJoined m.plan → IsJoined m.other → (role : Role) (arc f g k l : ℕ) → HasBeside m role arc f g → HasBeside m role arc k l → (k ≡ f) × (l ≡ g)
+pub one_beside : (m : ProposedMatching) → IsJoined m.plan → IsJoined m.other → (role : Role) (arc f g k l : ℕ) → HasBeside m role arc f g → HasBeside m role arc k l → (k ≡ f) × (l ≡ g)
 one_beside m joined joined' role arc f g k l b d =
     let e : Some d.other ≡ Some b.other = sym d.goes ∙ b.goes in
     let same : d.other ≡ b.other = cc in
@@ -88,17 +88,17 @@ one_beside m joined joined' role arc f g k l b d =
     )
 
 -- the arcs so far were looked at: none that is left has a free one
-pub record AreFacesAdded (role : Role) (m : Proposal) (before : List Bool) (to : List (Option ℕ)) (reached : List Bool) (done : ℕ) : Type 0 where
+pub record AreFacesAdded (role : Role) (m : ProposedMatching) (before : List Bool) (to : List (Option ℕ)) (reached : List Bool) (done : ℕ) : Type 0 where
   pub added : AreAdded Pfe m before to reached
   pub none_left : (n arc f g : ℕ) → n < done → get_or (places_of Par m.plan) n 0 ≡ arc → HasBeside m role arc f g → ¬ (IsMatched to f) → ¬ (IsFreeFor m reached f g)
 
 -- nothing is added yet
-pub no_faces : (role : Role) (m : Proposal) (reached : List Bool) → MatchingHolds m.classes m.plan m.other (matching_so m m.to) → AreReached m.to (length m.other.list) reached
+pub no_faces : (role : Role) (m : ProposedMatching) (reached : List Bool) → MatchingHolds m.classes m.plan m.other (matching_so m m.to) → AreReached m.to (length m.other.list) reached
     → AreFacesAdded role m reached m.to reached 0
 no_faces role m reached holds are = record { added = none_added Pfe m reached holds are; none_left = λ n arc f g h at b left free. absurd (omega (arith, h)) }
 
 -- one arc more
-module _ (role : Role) (m : Proposal) (before : List Bool) (to : List (Option ℕ)) (reached : List Bool) (done : ℕ) (are : AreFacesAdded role m before to reached done)
+module _ (role : Role) (m : ProposedMatching) (before : List Bool) (to : List (Option ℕ)) (reached : List Bool) (done : ℕ) (are : AreFacesAdded role m before to reached done)
     (i : ℕ) (at : get_or (places_of Par m.plan) done 0 ≡ i) where
   same_arc : (n arc : ℕ) → n ≡ done → get_or (places_of Par m.plan) n 0 ≡ arc → arc ≡ i
   same_arc n arc same there = sym there ∙ (ap (λ x. get_or (places_of Par m.plan) x 0) same ∙ at)
@@ -134,7 +134,7 @@ module _ (role : Role) (m : Proposal) (before : List Bool) (to : List (Option �
           alone (subst (IsMatched (set to f (Some g))) (sym (one_beside m joined joined' role i f g k l b at_arc).0) went)
 
 -- all were looked at
-pub all_faces : (role : Role) (m : Proposal) (before : List Bool) (to : List (Option ℕ)) (reached : List Bool) (done : ℕ) → AreFacesAdded role m before to reached done → length (places_of Par m.plan) ≤ done
+pub all_faces : (role : Role) (m : ProposedMatching) (before : List Bool) (to : List (Option ℕ)) (reached : List Bool) (done : ℕ) → AreFacesAdded role m before to reached done → length (places_of Par m.plan) ≤ done
     → IsWholePlan m.plan → IsJoined m.plan → beside role ≡ Pfe → m.targets ≡ targets_of m.to → MatchesBeside role m.classes m.plan m.other (matching_so m to)
 all_faces role m before to reached done are all whole joined side targets arc f g b missed =
     let place = has_place Par m.plan arc b.here.arc_there b.here.is_arc in
@@ -159,7 +159,7 @@ all_faces role m before to reached done are all whole joined side targets arc f 
     go false e = e
 
 -- the one isn't left for the other
-pub forced_none : (m : Proposal) (marks : List Bool) (to : List (Option ℕ)) (f g : ℕ) → ¬ (IsLeftFor m marks to f g) → (k l : ℕ) → (k ≡ f) × (l ≡ g) → ¬ (IsMatched to k) → ¬ (IsFreeFor m marks k l)
+pub forced_none : (m : ProposedMatching) (marks : List Bool) (to : List (Option ℕ)) (f g : ℕ) → ¬ (IsLeftFor m marks to f g) → (k l : ℕ) → (k ≡ f) × (l ≡ g) → ¬ (IsMatched to k) → ¬ (IsFreeFor m marks k l)
 forced_none m marks to f g none k l same left free =
     none (record {
       left = go (get_or to f None) refl;

@@ -25,7 +25,7 @@ use Rattle.edi_rank.specs.contracts.keys.LinkKeyOrd.TheImpl.{ghosts as links}
 use Rattle.edi_rank.proofs.KeyOrders.{link_order}
 use Rattle.edi_matching.specs.Matchings.{IsMatched, MatchingHolds, targets_of}
 use Rattle.edi_matching.specs.inner.Links.{IsFreeFor, IsLeftIfAny, IsMissedIfAny, IsMoreReached, ListsFree, matching_so, moved_key}
-use Rattle.edi_matching.specs.inner.Proposals.{Proposal}
+use Rattle.edi_matching.specs.inner.Proposals.{ProposedMatching}
 use Rattle.edi_matching.proofs.Totals.{target_is}
 
 module _ (p q : PlanData) (t : ℕ → ℕ) where
@@ -52,7 +52,7 @@ module _ (p q : PlanData) (t : ℕ → ℕ) where
       let same : y ≡ moved t x = cc in
       ap₂ ◌∷◌ (ap (numbered q (λ k. k)) same ∙ end_same x all.0) (others_same xs ys all.1 h)
 
-module _ (m : Proposal) (is : m.targets ≡ targets_of m.to) (holds : MatchingHolds m.classes m.plan m.other (matching_so m m.to)) (i : ℕ) where
+module _ (m : ProposedMatching) (is : m.targets ≡ targets_of m.to) (holds : MatchingHolds m.classes m.plan m.other (matching_so m m.to)) (i : ℕ) where
   abbrev pub to_there : ℕ → ℕ
   to_there = slice_index m.targets
 
@@ -90,7 +90,7 @@ none_with pairs key (Some x) none found = absurd (true≢false none)
 none_with pairs key None none found = λ k d h e. found k d h (link_order (get_or pairs k d).0 key ∙ e)
 
 -- what is missed is left, where the link goes nowhere yet
-pub left_if_missed : {E : Type 0} (m : Proposal) (marks : List Bool) (to : List (Option ℕ)) (i : ℕ) → is_some (get_or to i None) ≡ false → (found : Result (Option ℕ) E)
+pub left_if_missed : {E : Type 0} (m : ProposedMatching) (marks : List Bool) (to : List (Option ℕ)) (i : ℕ) → is_some (get_or to i None) ≡ false → (found : Result (Option ℕ) E)
     → IfOk found (IsMissedIfAny m marks i) → IfOk found (IsLeftIfAny m marks to i)
 left_if_missed m marks to i none (Ok None) missed = λ left. missed
 left_if_missed m marks to i none (Ok (Some j)) missed = (none_there (get_or to i None) none, missed)

@@ -13,20 +13,20 @@ use Rattle.edi_rank.specs.Same.{CarriesRecord}
 use Rattle.edi_matching.specs.Differences.{MatchesLinks}
 use Rattle.edi_matching.specs.Matchings.{IsMatched, MatchingHolds, targets_of}
 use Rattle.edi_matching.specs.inner.Links.{AreReached, IsFreeFor, matching_so}
-use Rattle.edi_matching.specs.inner.Proposals.{Proposal}
+use Rattle.edi_matching.specs.inner.Proposals.{ProposedMatching}
 use Rattle.edi_matching.proofs.RecordsAdded.{AreAdded, carried_before, last_or, matched_after, none_added, one_added, unmarked, went_here}
 
 -- the links so far were looked at: none that is left has a free one
-pub record AreLinksAdded (m : Proposal) (before : List Bool) (to : List (Option ℕ)) (reached : List Bool) (done : ℕ) : Type 0 where
+pub record AreLinksAdded (m : ProposedMatching) (before : List Bool) (to : List (Option ℕ)) (reached : List Bool) (done : ℕ) : Type 0 where
   pub added : AreAdded Lnk m before to reached
   pub none_left : (n i : ℕ) → n < done → get_or (places_of Lnk m.plan) n 0 ≡ i → ¬ (IsMatched to i) → (j : ℕ) → ¬ (IsFreeFor m reached i j)
 
 -- nothing is added yet
-pub no_links : (m : Proposal) (reached : List Bool) → MatchingHolds m.classes m.plan m.other (matching_so m m.to) → AreReached m.to (length m.other.list) reached → AreLinksAdded m reached m.to reached 0
+pub no_links : (m : ProposedMatching) (reached : List Bool) → MatchingHolds m.classes m.plan m.other (matching_so m m.to) → AreReached m.to (length m.other.list) reached → AreLinksAdded m reached m.to reached 0
 no_links m reached holds are = record { added = none_added Lnk m reached holds are; none_left = λ n i h at left j free. absurd (omega (arith, h)) }
 
 -- one link more
-module _ (m : Proposal) (before : List Bool) (to : List (Option ℕ)) (reached : List Bool) (done : ℕ) (are : AreLinksAdded m before to reached done) (i : ℕ) (at : get_or (places_of Lnk m.plan) done 0 ≡ i) where
+module _ (m : ProposedMatching) (before : List Bool) (to : List (Option ℕ)) (reached : List Bool) (done : ℕ) (are : AreLinksAdded m before to reached done) (i : ℕ) (at : get_or (places_of Lnk m.plan) done 0 ≡ i) where
   same_place : (n k : ℕ) → n ≡ done → get_or (places_of Lnk m.plan) n 0 ≡ k → i ≡ k
   same_place n k same there = sym at ∙ (ap (λ x. get_or (places_of Lnk m.plan) x 0) (sym same) ∙ there)
 
@@ -56,7 +56,7 @@ module _ (m : Proposal) (before : List Bool) (to : List (Option ℕ)) (reached :
           alone (subst (IsMatched (set to i (Some j))) (same_place n k same there) (j, went_here Lnk m before to reached are.added targets entered i here link left j missed))
 
 -- all were looked at
-pub all_links : (m : Proposal) (before : List Bool) (to : List (Option ℕ)) (reached : List Bool) (done : ℕ) → AreLinksAdded m before to reached done → length (places_of Lnk m.plan) ≤ done
+pub all_links : (m : ProposedMatching) (before : List Bool) (to : List (Option ℕ)) (reached : List Bool) (done : ℕ) → AreLinksAdded m before to reached done → length (places_of Lnk m.plan) ≤ done
     → IsWholePlan m.plan → m.targets ≡ targets_of m.to → MatchesLinks m.classes m.plan m.other (matching_so m to)
 all_links m before to reached done are whole plan targets i j link missed =
     let place = has_place Lnk m.plan i missed.here link in

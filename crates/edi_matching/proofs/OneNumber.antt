@@ -15,7 +15,7 @@ use Rattle.edi_matching.specs.declared.entries.ContentKey.{ContentKey}
 use Rattle.edi_matching.specs.inner.Additions.{AreAlike, HasKey, IsFirstFrom}
 use Rattle.edi_matching.specs.inner.Contents.{AreContents, IsContentNumber, IsNumberIn}
 use Rattle.edi_matching.specs.inner.Entries.{content_key_of}
-use Rattle.edi_matching.specs.inner.Proposals.{IsCarriedOnto, Proposal}
+use Rattle.edi_matching.specs.inner.Proposals.{IsCarriedOnto, ProposedMatching}
 use Rattle.edi_matching.proofs.FacesAdded.{no_ends}
 use Rattle.edi_matching.proofs.PartnersHold.{same_class}
 
@@ -80,7 +80,7 @@ module _ (cmp : ContentKey → ContentKey → Ordering) (eq : ContentKey → Con
       alike_numbers a b _ _ alike.same.kind (held_alike a b alike.same.class alike.same.attributes alike.same.extras) (are.here.each i alike.here) (are.there.each j alike.there)
 
 -- and a face that is carried onto another
-pub one_if_carried : (cmp : ContentKey → ContentKey → Ordering) (eq : ContentKey → ContentKey → Bool) (m : Proposal) (contents : Contents) → AreContents cmp eq Pfe m.plan m.other contents
+pub one_if_carried : (cmp : ContentKey → ContentKey → Ordering) (eq : ContentKey → ContentKey → Bool) (m : ProposedMatching) (contents : Contents) → AreContents cmp eq Pfe m.plan m.other contents
     → IsWholePlan m.plan → (f g : ℕ) → IsPlace m.plan f → IsPlace m.other g → (record_at m.plan f).kind ≡ Pfe → IsCarriedOnto m f g → get_or contents.here.items f 0 ≡ get_or contents.there.items g 0
 one_if_carried cmp eq m contents are whole f g here there face carried =
     let a = record_at m.plan f in

@@ -15,11 +15,11 @@ use Rattle.edi_rank.proofs.SameLaws.{map_alike}
 use Rattle.edi_matching.specs.Differences.{IsReached}
 use Rattle.edi_matching.specs.Matchings.{GoesTo, IsMatched, MatchingHolds, targets_of}
 use Rattle.edi_matching.specs.inner.Links.{AddsOnly, AreReached, IsFreeFor, IsMoreReached, matching_so}
-use Rattle.edi_matching.specs.inner.Proposals.{Proposal}
+use Rattle.edi_matching.specs.inner.Proposals.{ProposedMatching}
 use Rattle.edi_matching.proofs.Totals.{target_is}
 
 -- more records of this type go somewhere than before, and what they go to is marked
-pub record AreAdded (kind : Kind) (m : Proposal) (before : List Bool) (to : List (Option ℕ)) (reached : List Bool) : Type 0 where
+pub record AreAdded (kind : Kind) (m : ProposedMatching) (before : List Bool) (to : List (Option ℕ)) (reached : List Bool) : Type 0 where
   pub holds : MatchingHolds m.classes m.plan m.other (matching_so m to)
   pub adds : AddsOnly kind m.plan (matching_so m m.to) (matching_so m to)
   pub long : length reached ≡ length m.other.list
@@ -83,7 +83,7 @@ same_default (x ∷ xs) zero d e h = refl
 same_default (x ∷ xs) (suc i) d e h = same_default xs i d e (omega arith)
 
 -- nothing is added yet
-pub none_added : (kind : Kind) (m : Proposal) (reached : List Bool) → MatchingHolds m.classes m.plan m.other (matching_so m m.to) → AreReached m.to (length m.other.list) reached
+pub none_added : (kind : Kind) (m : ProposedMatching) (reached : List Bool) → MatchingHolds m.classes m.plan m.other (matching_so m m.to) → AreReached m.to (length m.other.list) reached
     → AreAdded kind m reached m.to reached
 none_added kind m reached holds are = record {
   holds = holds;
@@ -95,7 +95,7 @@ none_added kind m reached holds are = record {
 }
 
 -- one record more, which goes to one that isn't marked
-module _ (kind : Kind) (m : Proposal) (before : List Bool) (to : List (Option ℕ)) (reached : List Bool) (are : AreAdded kind m before to reached)
+module _ (kind : Kind) (m : ProposedMatching) (before : List Bool) (to : List (Option ℕ)) (reached : List Bool) (are : AreAdded kind m before to reached)
     (targets : m.targets ≡ targets_of m.to) (entered : length m.to ≡ length m.plan.list) (i : ℕ) (here : IsPlace m.plan i) (is : (record_at m.plan i).kind ≡ kind)
     (left : get_or to i None ≡ None) (j : ℕ) (missed : IsFreeFor m reached i j) where
   abbrev after : List (Option ℕ)

@@ -30,9 +30,9 @@ pub(crate) struct Proposed<'a> {
 }
 
 impl<'a> Model for Proposed<'a> {
-    ghost use Rattle.edi_matching.specs.inner.Proposals.{Proposal, IsWithinPlans};
+    ghost use Rattle.edi_matching.specs.inner.Proposals.{ProposedMatching, IsWithinPlans};
 
-    ghost Value = { Proposal };
+    ghost Value = { ProposedMatching };
 
     ghost view = { λ p. record {
       classes = p.schema.now;

@@ -16,7 +16,7 @@ use Rattle.edi_plan.specs.declared.record.PlanEnd.{PlanEnd}
 use Rattle.edi_plan.specs.declared.record.PlanRecord.{PlanRecord}
 use Rattle.edi_report.specs.Lines.{first_line, is_reached, line_by, lone_line, second_line, some_differ, went_to}
 use Rattle.edi_report.specs.Reports.{Report, parts_at}
-use Rattle.edi_report.specs.declared.parts.Parts.{Parts}
+use Rattle.edi_report.specs.declared.parts.DifferingParts.{DifferingParts}
 use Rattle.edi_objects.specs.Accounts.{is_told_beside}
 use Rattle.edi_objects.specs.Differing.{arrives, became_of, differs_by, is_differing, moved_by, moved_to, same_of}
 use Rattle.edi_objects.specs.Elements.{most_named, others_text}
@@ -91,20 +91,20 @@ reached_from (x ∷ became) j e = go (or_cases (went_to j x) (is_reached became 
     go (inl h) more = (zero, went_where j x h)
     go (inr h) more = let w = more h in (suc w.0, w.1)
 
-differs_none : (same became : Option ℕ) (parts : Parts) → differs_by same became parts ≡ true → same ≡ None
+differs_none : (same became : Option ℕ) (parts : DifferingParts) → differs_by same became parts ≡ true → same ≡ None
 differs_none (Some k) became parts e = absurd (true≢false (sym e))
 differs_none None became parts e = refl
 
-differs_parts : (same : Option ℕ) (j : ℕ) (parts : Parts) → differs_by same (Some j) parts ≡ true → some_differ parts ≡ true
+differs_parts : (same : Option ℕ) (j : ℕ) (parts : DifferingParts) → differs_by same (Some j) parts ≡ true → some_differ parts ≡ true
 differs_parts (Some k) j parts e = absurd (true≢false (sym e))
 differs_parts None j parts e = e
 
 -- a record that moved had other ends
-moved_same : (same became : Option ℕ) (parts : Parts) (j : ℕ) → moved_by same became parts ≡ Some j → same ≡ None
+moved_same : (same became : Option ℕ) (parts : DifferingParts) (j : ℕ) → moved_by same became parts ≡ Some j → same ≡ None
 moved_same (Some k) became parts j e = absurd cc
 moved_same None became parts j e = refl
 
-moved_ends : (same became : Option ℕ) (parts : Parts) (j : ℕ) → moved_by same became parts ≡ Some j → (parts.ends ≡ true) × (became ≡ Some j)
+moved_ends : (same became : Option ℕ) (parts : DifferingParts) (j : ℕ) → moved_by same became parts ≡ Some j → (parts.ends ≡ true) × (became ≡ Some j)
 moved_ends (Some k) became parts j e = absurd cc
 moved_ends None became parts j e = go parts.ends refl e
   where
@@ -135,7 +135,7 @@ extras_unsaid true e = absurd cc
 extras_unsaid false e = refl
 
 -- where an object's own lines are none, no part of it differs
-none_differ : (n : Naming) (parts : Parts) (a b : PlanRecord) → AreSoundParts a b parts → a.points ≡ [] → b.points ≡ [] → a.ends ≡ [] → b.ends ≡ []
+none_differ : (n : Naming) (parts : DifferingParts) (a b : PlanRecord) → AreSoundParts a b parts → a.points ≡ [] → b.points ≡ [] → a.ends ≡ [] → b.ends ≡ []
     → own_changes n parts a b ≡ [] → some_differ parts ≡ false
 none_differ n parts a b sound p q e f none =
     let halves = both_none (class_change n parts.class a b ++ attributes_change n parts.attributes a b) (extras_change parts.extras) none in
@@ -160,7 +160,7 @@ unfolding extras_change
 extras_silent true e = absurd (true≢false e)
 extras_silent false e = refl
 
-own_silent : (n : Naming) (parts : Parts) (a b : PlanRecord) → some_differ parts ≡ false → own_changes n parts a b ≡ []
+own_silent : (n : Naming) (parts : DifferingParts) (a b : PlanRecord) → some_differ parts ≡ false → own_changes n parts a b ≡ []
 own_silent n parts a b none =
     let class = or_parts parts.class (parts.attributes || (parts.extras || (parts.points || parts.ends))) none in
     let attributes = or_parts parts.attributes (parts.extras || (parts.points || parts.ends)) class.1 in

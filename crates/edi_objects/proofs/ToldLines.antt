@@ -9,7 +9,7 @@ use Rattle.edi_plan.proofs.PlaceLemmas.{has_place}
 use Rattle.edi_line.specs.Bytes.{line_feed}
 use Rattle.edi_report.specs.Lines.{charsets_line, totals_line, words_text}
 use Rattle.edi_report.specs.Reports.{Report, parts_at}
-use Rattle.edi_report.specs.declared.parts.Parts.{Parts}
+use Rattle.edi_report.specs.declared.parts.DifferingParts.{DifferingParts}
 use Rattle.edi_report.specs.declared.sheet.LocatedSheet.{LocatedSheet}
 use Rattle.edi_objects.specs.Accounts.{account_text, bare_link, bare_link_by, bare_links, first_bare_link, objects_of, record_line_text, second_bare_link, shapes_of}
 use Rattle.edi_objects.specs.Counts.{class_totals}
@@ -135,7 +135,7 @@ module _ (n : Naming) (r : Report) where
   pub new_bare_said : (j : ℕ) (told : Bool) → told ≡ false → (if told then [] else codes "+ " ++ bare_link n r.second j ++ record_line_text r.second j) ≢ []
   new_bare_said j told e = else_said told [] (codes "+ " ++ bare_link n r.second j ++ record_line_text r.second j) e (λ none. cc)
 
-  pub differing_said : (i link : ℕ) (went : Option ℕ) (parts : Parts) → differing_link n r i link went parts ≢ []
+  pub differing_said : (i link : ℕ) (went : Option ℕ) (parts : DifferingParts) → differing_link n r i link went parts ≢ []
   differing_said i link None parts none = cc
   differing_said i link (Some k) parts none =
       either_said parts.ends (link_text (codes "    - ") n r i link ++ line_feed ∷ []) (link_text (codes "    ~ ") n r i link ++ codes ":" ++ words_text parts ++ line_feed ∷ [])

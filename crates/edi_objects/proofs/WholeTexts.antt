@@ -14,7 +14,7 @@ use Rattle.edi_plan.specs.declared.record.PlanAttribute.{PlanAttribute}
 use Rattle.edi_plan.specs.declared.record.PlanRecord.{PlanRecord}
 use Rattle.edi_report.specs.Lines.{both_lines, charset_change, charset_change_line, charsets_line, is_reached, words_text}
 use Rattle.edi_report.specs.Reports.{Report, parts_at, site_at}
-use Rattle.edi_report.specs.declared.parts.Parts.{Parts}
+use Rattle.edi_report.specs.declared.parts.DifferingParts.{DifferingParts}
 use Rattle.edi_report.specs.declared.sheet.LocatedSheet.{LocatedSheet}
 use Rattle.edi_shown.specs.Shown.{shown_bytes}
 use Rattle.edi_objects.specs.Accounts.{bare_link, bare_link_by, first_bare_link, is_told_beside, objects_of, record_line_text, second_bare_link, shapes_of}
@@ -57,7 +57,7 @@ extras_whole : (said : Bool) → AreWholeLines (extras_change said)
 unfolding extras_change
 extras_whole said = whole_if said (codes "    extra zones" ++ line_feed ∷ []) [] (whole_line (codes "    extra zones")) refl
 
-own_changes_whole : (n : Naming) (parts : Parts) (a b : PlanRecord) → AreWholeLines (own_changes n parts a b)
+own_changes_whole : (n : Naming) (parts : DifferingParts) (a b : PlanRecord) → AreWholeLines (own_changes n parts a b)
 own_changes_whole n parts a b =
     whole_append (class_change n parts.class a b ++ attributes_change n parts.attributes a b) (extras_change parts.extras)
     (whole_append (class_change n parts.class a b) (attributes_change n parts.attributes a b) (class_whole n parts.class a b) (attributes_change_whole n parts.attributes a b))
@@ -76,7 +76,7 @@ module _ (n : Naming) (r : Report) where
   pub lone_whole : (sign : List ℕ) (sheet : LocatedSheet) (k : ℕ) → AreWholeLines (lone_element sign n sheet k)
   lone_whole sign sheet k = whole_line (sign ++ element_text n sheet k)
 
-  pub differing_whole : (i link : ℕ) (went : Option ℕ) (parts : Parts) → AreWholeLines (differing_link n r i link went parts)
+  pub differing_whole : (i link : ℕ) (went : Option ℕ) (parts : DifferingParts) → AreWholeLines (differing_link n r i link went parts)
   differing_whole i link None parts = whole_line (link_text (codes "    - ") n r i link)
   differing_whole i link (Some k) parts = whole_if parts.ends (link_text (codes "    - ") n r i link ++ line_feed ∷ []) (link_text (codes "    ~ ") n r i link ++ codes ":" ++ words_text parts ++ line_feed ∷ [])
       (whole_line (link_text (codes "    - ") n r i link)) (whole_line (link_text (codes "    ~ ") n r i link ++ codes ":" ++ words_text parts))

@@ -16,7 +16,7 @@ use Rattle.edi_objects.specs.Names.{Naming}
 use Rattle.edi_objects.specs.Objects.{first_objects, second_objects}
 
 -- how objects are named, two sheets, and what became of the records of the first in the second
-pub record Told : Type 0 where
+pub record NamedReport : Type 0 where
   pub naming : Naming
   pub report : Report
 

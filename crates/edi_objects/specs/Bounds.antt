@@ -7,7 +7,7 @@ use Rattle.edi_schema.specs.declared.role.Role.{Role}
 use Rattle.edi_plan.specs.Plans.{PlanData, record_at}
 use Rattle.edi_plan.specs.Sides.{targets}
 use Rattle.edi_report.specs.Reports.{Report, parts_at}
-use Rattle.edi_report.specs.declared.parts.Parts.{Parts}
+use Rattle.edi_report.specs.declared.parts.DifferingParts.{DifferingParts}
 use Rattle.edi_objects.specs.Differing.{arrives, became_of, bounds_type, is_differing, is_initial_or_final, is_left_or_right}
 use Rattle.edi_objects.specs.LinksOf.{entries_of, index_of}
 
@@ -20,7 +20,7 @@ abbrev pub bounds_count : (ℕ → Bool) → PlanData → ℕ → ℕ
 bounds_count test p place = count_by (λ named. bounds_and test p place named.1) (entries_of (index_of p) place)
 
 -- a link of the first sheet is gone, or got other ends
-abbrev pub is_lost_by : Option ℕ → Parts → Bool
+abbrev pub is_lost_by : Option ℕ → DifferingParts → Bool
 is_lost_by None parts = true
 is_lost_by (Some j) parts = parts.ends
 

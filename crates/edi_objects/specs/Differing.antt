@@ -9,7 +9,7 @@ use Rattle.edi_plan.specs.Plans.{PlanData, record_at}
 use Rattle.edi_plan.specs.Sides.{targets}
 use Rattle.edi_report.specs.Lines.{is_reached, some_differ, went_to}
 use Rattle.edi_report.specs.Reports.{Report, parts_at}
-use Rattle.edi_report.specs.declared.parts.Parts.{Parts}
+use Rattle.edi_report.specs.declared.parts.DifferingParts.{DifferingParts}
 use Rattle.edi_objects.specs.LinksOf.{links_of}
 
 -- which record of the second sheet the one of the first at a place is, if any; and which one it is or became
@@ -20,7 +20,7 @@ abbrev pub became_of : Report → ℕ → Option ℕ
 became_of r i = slice_index_or r.became i None
 
 -- a record that isn't one of the second sheet differs if it is gone, or if a part of its own differs
-abbrev pub differs_by : Option ℕ → Option ℕ → Parts → Bool
+abbrev pub differs_by : Option ℕ → Option ℕ → DifferingParts → Bool
 differs_by (Some k) became parts = false
 differs_by None None parts = true
 differs_by None (Some j) parts = some_differ parts
@@ -31,7 +31,7 @@ is_differing r i =
     nat_lt i (length r.first.accepted.list) && differs_by (same_of r i) (became_of r i) (parts_at r.parts i)
 
 -- the record of the second sheet that one of the first became, if it had other ends
-abbrev pub moved_by : Option ℕ → Option ℕ → Parts → Option ℕ
+abbrev pub moved_by : Option ℕ → Option ℕ → DifferingParts → Option ℕ
 moved_by (Some k) became parts = None
 moved_by None became parts = if parts.ends then became else None
 

@@ -12,7 +12,7 @@ use Rattle.edi_plan.specs.Sides.{targets}
 use Rattle.edi_plan.specs.declared.record.PlanRecord.{PlanRecord}
 use Rattle.edi_report.specs.Lines.{both_lines, is_reached, words_text}
 use Rattle.edi_report.specs.Reports.{Report, parts_at, site_at}
-use Rattle.edi_report.specs.declared.parts.Parts.{Parts}
+use Rattle.edi_report.specs.declared.parts.DifferingParts.{DifferingParts}
 use Rattle.edi_report.specs.declared.sheet.LocatedSheet.{LocatedSheet}
 use Rattle.edi_objects.specs.Differing.{became_of, is_differing}
 use Rattle.edi_objects.specs.Distances.{distance_of_first, farthest, side_by_side, unlike_count}
@@ -100,7 +100,7 @@ points_change Fea a b = []
 points_change Lnk a b = []
 
 -- the words for the parts that differ, and how the points do
-abbrev pub change_text : Parts → PlanRecord → PlanRecord → List ℕ
+abbrev pub change_text : DifferingParts → PlanRecord → PlanRecord → List ℕ
 change_text parts a b = words_text (record parts { points = false })
     ++ (if parts.points then points_change a.kind a.points b.points else [])
 

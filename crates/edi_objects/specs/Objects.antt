@@ -9,7 +9,7 @@ use Rattle.edi_plan.specs.Sides.{targets}
 use Rattle.edi_plan.specs.declared.record.PlanRecord.{PlanRecord}
 use Rattle.edi_report.specs.Lines.{both_lines, is_reached, words_text}
 use Rattle.edi_report.specs.Reports.{Report, parts_at, site_at}
-use Rattle.edi_report.specs.declared.parts.Parts.{Parts}
+use Rattle.edi_report.specs.declared.parts.DifferingParts.{DifferingParts}
 use Rattle.edi_objects.specs.Attributes.{attribute_lines}
 use Rattle.edi_objects.specs.Bounds.{outline_counts}
 use Rattle.edi_objects.specs.Differing.{arrives, became_of, is_differing, outline_differs, same_of}
@@ -32,7 +32,7 @@ attributes_change n said a b = if said then attribute_lines n.classes a.attribut
 unfoldable pub extras_change : Bool → List ℕ
 extras_change said = if said then codes "    extra zones" ++ line_feed ∷ [] else []
 
-abbrev pub own_changes : Naming → Parts → PlanRecord → PlanRecord → List ℕ
+abbrev pub own_changes : Naming → DifferingParts → PlanRecord → PlanRecord → List ℕ
 own_changes n parts a b =
     class_change n parts.class a b ++ attributes_change n parts.attributes a b ++ extras_change parts.extras
 
@@ -51,7 +51,7 @@ link_text sign n r i link =
     ++ others_text n r.first (Some i) (record_at r.first.accepted link)
 
 -- a link of the first sheet, by the one that it became and the parts that differ: with other ends it is another link
-abbrev pub differing_link : Naming → Report → ℕ → ℕ → Option ℕ → Parts → List ℕ
+abbrev pub differing_link : Naming → Report → ℕ → ℕ → Option ℕ → DifferingParts → List ℕ
 differing_link n r i link None parts = link_text (codes "    - ") n r i link ++ line_feed ∷ []
 differing_link n r i link (Some k) parts =
     if parts.ends then link_text (codes "    - ") n r i link ++ line_feed ∷ []

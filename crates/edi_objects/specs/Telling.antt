@@ -9,7 +9,7 @@ use Rattle.edi_plan.specs.Whole.{IsWholePlan}
 use Rattle.edi_plan.specs.declared.record.PlanRecord.{PlanRecord}
 use Rattle.edi_report.specs.Lines.{first_line, second_line, some_differ}
 use Rattle.edi_report.specs.Reports.{Report, parts_at}
-use Rattle.edi_report.specs.declared.parts.Parts.{Parts}
+use Rattle.edi_report.specs.declared.parts.DifferingParts.{DifferingParts}
 use Rattle.edi_objects.specs.Accounts.{account_text, first_bare_link, second_bare_link}
 use Rattle.edi_objects.specs.Differing.{arrives, became_of, is_differing, same_of}
 use Rattle.edi_objects.specs.Elements.{first_element, second_element}
@@ -48,7 +48,7 @@ pub record IsLinkOf (p : PlanData) (place link : ℕ) : Type 0 where
 
 -- What is said of the parts of a record and of the one that it became: the attributes differ only where they are
 -- others, and points or ends don't that neither has.
-pub record AreSoundParts (a b : PlanRecord) (parts : Parts) : Type 0 where
+pub record AreSoundParts (a b : PlanRecord) (parts : DifferingParts) : Type 0 where
   pub attributes : parts.attributes ≡ true → ¬ (IsPermutation a.attributes b.attributes)
   pub points : a.points ≡ [] → b.points ≡ [] → parts.points ≡ false
   pub ends : a.ends ≡ [] → b.ends ≡ [] → parts.ends ≡ false

@@ -25,7 +25,7 @@ use crate::outlines::{is_marked, outlines};
 use edi_plan::Plan;
 use edi_record::Kind;
 use edi_report::lines::{push_both_lines, push_words};
-use edi_report::{Parts, Reporter};
+use edi_report::{DifferingParts, Reporter};
 use edi_schema::ClassRef;
 use std::alloc::{AllocError, Global};
 use std::marker::Model;
@@ -75,11 +75,11 @@ pub struct ObjectReporter<'a> {
 impl<'a> Model for ObjectReporter<'a> {
     ghost use Rattle.std.specs.Prelude.{length};
     ghost use Rattle.edi_plan.specs.Agreeing.{Agrees};
-    ghost use Rattle.edi_objects.specs.Accounts.{Told};
+    ghost use Rattle.edi_objects.specs.Accounts.{NamedReport};
     ghost use Rattle.edi_objects.specs.Differing.{arrives, is_differing};
     ghost use Rattle.edi_objects.specs.inner.Sheets.{AreBoundCounts, AreFurther, AreNotes};
 
-    ghost Value = { Told };
+    ghost Value = { NamedReport };
 
     ghost view = { λ a. record { naming = a.namer.now; report = a.report.now } };
 
@@ -226,7 +226,7 @@ impl<'a> ObjectReporter<'a> {
     }
 
     /// The parts in which a record that changed differs.
-    pub(crate) fn parts_at(&self, place: u32) -> Parts
+    pub(crate) fn parts_at(&self, place: u32) -> DifferingParts
         ensures { result ≡ parts_at self.now.report.parts place }
     {
         parts_at(self.report, place)
@@ -367,7 +367,7 @@ impl<'a> ObjectReporter<'a> {
         let plan = self.first().plan();
         push_words(
             text,
-            &Parts {
+            &DifferingParts {
                 points: false,
                 ..parts
             },

@@ -17,7 +17,7 @@ use crate::outlines::{bounds_type, is_marked};
 use edi_line::push_number;
 use edi_plan::Plan;
 use edi_record::Kind;
-use edi_report::{Parts, Reporter, values_of_places};
+use edi_report::{DifferingParts, Reporter, values_of_places};
 use edi_schema::Role;
 use std::alloc::{AllocError, Global};
 
@@ -77,7 +77,7 @@ fn is_lost(report: &Reporter<'_>, marks: &[bool], place: u32) -> bool
 }
 
 /// Whether a record that differs is gone or got other ends.
-fn is_lost_by(became: Option<u32>, parts: &Parts) -> bool
+fn is_lost_by(became: Option<u32>, parts: &DifferingParts) -> bool
     ensures { result ≡ is_lost_by became parts.now }
 {
     match became {

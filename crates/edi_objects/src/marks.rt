@@ -8,7 +8,7 @@ ghost use Rattle.edi_objects.specs.inner.Sheets.{AreTested};
 ghost use Rattle.edi_report.specs.Lines.{went_to};
 ghost use Rattle.edi_report.specs.Reports.{parts_at};
 
-use edi_report::{LocatedSheet, Parts, Reporter, values_of_places};
+use edi_report::{DifferingParts, LocatedSheet, Reporter, values_of_places};
 use std::alloc::{AllocError, Global};
 
 /// Of each record of the first sheet, whether it differs.
@@ -58,7 +58,7 @@ pub(crate) fn became_of(report: &Reporter<'_>, place: u32) -> Option<u32>
 }
 
 /// The parts in which a record that changed differs.
-pub(crate) fn parts_at(report: &Reporter<'_>, place: u32) -> Parts
+pub(crate) fn parts_at(report: &Reporter<'_>, place: u32) -> DifferingParts
     ensures { result ≡ parts_at report.now.parts place }
 {
     edi_report::parts_at(report.parts, place as usize)

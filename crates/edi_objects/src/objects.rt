@@ -18,7 +18,7 @@ use crate::further::has_other_outline;
 use crate::index::entries_of;
 use crate::names::first_few;
 use edi_record::Kind;
-use edi_report::Parts;
+use edi_report::DifferingParts;
 use edi_report::lines::{push_both_lines, push_words};
 use edi_schema::ClassRef;
 use std::alloc::{AllocError, Global};

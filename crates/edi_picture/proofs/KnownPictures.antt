@@ -14,11 +14,11 @@ use Rattle.edi_picture.specs.Frames.{IsBar}
 use Rattle.edi_picture.specs.KnownPictures.{IsOnlyPicture, blank_picture, blank_sheet, classes_of_nodes, faces_of_a, faces_of_b, nodes_of_a, nodes_of_b, picture_of_faces, picture_of_nodes, triangle_classes, triangle_picture, triangle_sheet}
 use Rattle.edi_picture.specs.Known.{one_class}
 use Rattle.edi_picture.specs.Pictures.{IsPicture}
-use Rattle.edi_picture.specs.Sheets.{Sheet, all_points, arc_points}
+use Rattle.edi_picture.specs.Sheets.{DrawnSheet, all_points, arc_points}
 use Rattle.edi_picture.proofs.OnePicture.{one_picture}
 
 -- a picture is the only one
-pub only_picture : (s : Classes) (sheets : List Sheet) (picture : List ℕ) → IsPicture s sheets picture → IsOnlyPicture s sheets picture
+pub only_picture : (s : Classes) (sheets : List DrawnSheet) (picture : List ℕ) → IsPicture s sheets picture → IsOnlyPicture s sheets picture
 only_picture s sheets picture known text =
     (λ drawn. one_picture s sheets text picture drawn known, λ same. subst (IsPicture s sheets) (sym same) known)
 
@@ -101,7 +101,7 @@ frame_of_faces = record {
   y = record { least = pos 0; greatest = pos 4000000 };
 }
 
-abbrev sheets_of_faces : List Sheet
+abbrev sheets_of_faces : List DrawnSheet
 sheets_of_faces = faces_of_a ∷ faces_of_b ∷ []
 
 arcs_of_faces : IsExtent (arc_points sheets_of_faces) frame_of_faces

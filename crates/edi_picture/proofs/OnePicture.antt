@@ -12,7 +12,7 @@ use Rattle.edi_plan.specs.declared.extent.Span.{Span}
 use Rattle.edi_picture.specs.Frames.{IsBar, IsFrame, is_near, side_length}
 use Rattle.edi_picture.specs.Legends.{tail_text}
 use Rattle.edi_picture.specs.Pictures.{IsPage, IsPicture, drawn_text, page_top, plan_bottom}
-use Rattle.edi_picture.specs.Sheets.{Sheet, all_points, arc_points}
+use Rattle.edi_picture.specs.Sheets.{DrawnSheet, all_points, arc_points}
 
 -- ---- one frame
 
@@ -73,19 +73,19 @@ one_bar width a b h k =
 
 -- ---- one text
 
-one_page : (s : Classes) (sheets : List Sheet) (frame : Option Extent) (a b : List ℕ) → IsPage s sheets frame a → IsPage s sheets frame b → a ≡ b
+one_page : (s : Classes) (sheets : List DrawnSheet) (frame : Option Extent) (a b : List ℕ) → IsPage s sheets frame a → IsPage s sheets frame b → a ≡ b
 one_page s sheets None a b h k = h ∙ sym k
 one_page s sheets (Some f) a b (bar, is_bar, is) (bar', is_bar', is') =
     is ∙ ap (λ (n : ℕ). page_top sheets (plan_bottom sheets f + 32) ++ drawn_text s sheets f n ++ tail_text) (one_bar (side_length f.x) bar bar' is_bar is_bar') ∙ sym is'
 
 -- the frame is one, since the extent of the arcs is
-one_frame_of : (sheets : List Sheet) (a b : Option Extent) → IsFrame sheets a → IsFrame sheets b → a ≡ b
+one_frame_of : (sheets : List DrawnSheet) (a b : Option Extent) → IsFrame sheets a → IsFrame sheets b → a ≡ b
 one_frame_of sheets a b h k =
     let arcs : h.arcs ≡ k.arcs = one_frame (arc_points sheets) h.arcs k.arcs h.are_arcs k.are_arcs in
     let near = subst (λ (e : Option Extent). IsExtentIfAny (filter (is_near e) (all_points sheets)) a) arcs h.is_frame in
     one_frame (filter (is_near k.arcs) (all_points sheets)) a b near k.is_frame
 
-pub one_picture : (s : Classes) (sheets : List Sheet) (text other : List ℕ) → IsPicture s sheets text → IsPicture s sheets other → text ≡ other
+pub one_picture : (s : Classes) (sheets : List DrawnSheet) (text other : List ℕ) → IsPicture s sheets text → IsPicture s sheets other → text ≡ other
 one_picture s sheets text other h k =
     let same : h.frame ≡ k.frame = one_frame_of sheets h.frame k.frame h.is_frame k.is_frame in
     one_page s sheets k.frame text other (subst (λ (frame : Option Extent). IsPage s sheets frame text) same h.is_page) k.is_page

@@ -17,7 +17,7 @@ use Rattle.edi_picture.specs.Elements.{spot_text, spots_text}
 use Rattle.edi_picture.specs.Frames.{distance, pixels}
 use Rattle.edi_picture.specs.Marks.{same_mark}
 use Rattle.edi_picture.specs.declared.mark.Mark.TheVariants.{Hidden}
-use Rattle.edi_picture.specs.Sheets.{Sheet, mark_at, tint_at}
+use Rattle.edi_picture.specs.Sheets.{DrawnSheet, mark_at, tint_at}
 use Rattle.edi_picture.specs.Titles.{title_text}
 
 -- ---- the arcs round a face
@@ -68,7 +68,7 @@ form_rings ends = list_all (λ q. count_by (same_spot q) ends % 2 == 0) ends
 -- An arc, with lines from its end to the base and from there to its begin. Of some arcs that close, what is inside of
 -- an odd number of these is what is inside of their rings: there are two or another even number of lines from each end
 -- to the base.
-abbrev pub fan_text : Extent → Sheet → Point → ℕ → List ℕ
+abbrev pub fan_text : Extent → DrawnSheet → Point → ℕ → List ℕ
 fan_text f sheet base a = codes "M" ++ spots_text f sheet a ++ spot_text f base ++ codes "Z"
 
 -- a face is yellow where it is tinted; where it isn't, the pointer finds its title all the same
@@ -77,40 +77,40 @@ fill_text true = codes "<path fill='#F0E442' d='"
 fill_text false = codes "<path d='"
 
 -- the title of a face, with these words, and the end of its path
-abbrev pub face_end : Classes → Sheet → ℕ → List ℕ → List ℕ
+abbrev pub face_end : Classes → DrawnSheet → ℕ → List ℕ → List ℕ
 face_end s sheet k words = codes "'>" ++ title_text s sheet k words ++ codes "</path>\n"
 
 -- a face whose arcs close
-abbrev pub closed_face : Classes → Extent → Sheet → ℕ → Point → List ℕ → List ℕ
+abbrev pub closed_face : Classes → Extent → DrawnSheet → ℕ → Point → List ℕ → List ℕ
 closed_face s f sheet k base arcs =
     fill_text (tint_at sheet k) ++ flat_map (fan_text f sheet base) arcs ++ face_end s sheet k []
 
 -- of a tinted face whose arcs don't close a band along each
-abbrev pub band_text : Extent → Sheet → ℕ → List ℕ
+abbrev pub band_text : Extent → DrawnSheet → ℕ → List ℕ
 band_text f sheet a = codes "M" ++ spots_text f sheet a
 
 abbrev pub bands_begin : Extent → List ℕ
 bands_begin f = codes "<path fill='none' stroke='#F0E442' stroke-width='" ++ pixels f 8 ++ codes "' d='"
 
-abbrev pub bands : Classes → Extent → Sheet → ℕ → List ℕ → List ℕ
+abbrev pub bands : Classes → Extent → DrawnSheet → ℕ → List ℕ → List ℕ
 bands s f sheet k arcs = bands_begin f ++ flat_map (band_text f sheet) arcs
     ++ face_end s sheet k (codes ", not filled, since its arcs do not close")
 
-abbrev pub open_face : Classes → Extent → Sheet → ℕ → List ℕ → List ℕ
+abbrev pub open_face : Classes → Extent → DrawnSheet → ℕ → List ℕ → List ℕ
 open_face s f sheet k arcs = if tint_at sheet k then bands s f sheet k arcs else []
 
 -- a face by the ends of the arcs, the first of which is the base: nothing where there is no arc
-abbrev pub face_by_ends : Classes → Extent → Sheet → ℕ → List ℕ → List Point → List ℕ
+abbrev pub face_by_ends : Classes → Extent → DrawnSheet → ℕ → List ℕ → List Point → List ℕ
 face_by_ends s f sheet k arcs [] = []
 face_by_ends s f sheet k arcs (base ∷ ends) =
     if form_rings (base ∷ ends) then closed_face s f sheet k base arcs else open_face s f sheet k arcs
 
 -- what is drawn of a face: nothing where its mark hides it
-abbrev pub face_text : Classes → Extent → Sheet → ℕ → List ℕ
+abbrev pub face_text : Classes → Extent → DrawnSheet → ℕ → List ℕ
 face_text s f sheet k =
     if same_mark Hidden (mark_at sheet k) then []
     else face_by_ends s f sheet k (arcs_round sheet.plan k) (ends_of sheet.plan (arcs_round sheet.plan k))
 
 -- the faces of a sheet, in file order
-abbrev pub faces_of : Classes → Extent → Sheet → List ℕ
+abbrev pub faces_of : Classes → Extent → DrawnSheet → List ℕ
 faces_of s f sheet = flat_map (face_text s f sheet) (places_of Pfe sheet.plan)

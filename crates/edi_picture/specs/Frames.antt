@@ -5,7 +5,7 @@ use Rattle.edi_record.specs.declared.record.Point.{Point}
 use Rattle.edi_plan.specs.Extents.{IsExtentIfAny}
 use Rattle.edi_plan.specs.declared.extent.Extent.{Extent}
 use Rattle.edi_plan.specs.declared.extent.Span.{Span}
-use Rattle.edi_picture.specs.Sheets.{Sheet, all_points, arc_points}
+use Rattle.edi_picture.specs.Sheets.{DrawnSheet, all_points, arc_points}
 
 -- how far two coordinates are apart, in millionths
 abbrev pub distance : ℤ → ℤ → ℕ
@@ -28,7 +28,7 @@ is_near (Some e) q = is_near_span e.x q.x && is_near_span e.y q.y
 
 -- The least and the greatest coordinates of all points, but for those far from the arcs, so that a node that lies far
 -- off doesn't make the rest small.
-pub record IsFrame (sheets : List Sheet) (frame : Option Extent) : Type 0 where
+pub record IsFrame (sheets : List DrawnSheet) (frame : Option Extent) : Type 0 where
   pub arcs : Option Extent
   pub are_arcs : IsExtentIfAny (arc_points sheets) arcs
   pub is_frame : IsExtentIfAny (filter (is_near arcs) (all_points sheets)) frame

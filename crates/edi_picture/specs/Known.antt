@@ -10,7 +10,7 @@ use Rattle.edi_schema.specs.declared.role.Role.{Role}
 use Rattle.edi_schema.specs.declared.role.Role.TheVariants.{Plain}
 use Rattle.edi_plan.specs.declared.extent.Extent.{Extent}
 use Rattle.edi_plan.specs.declared.record.PlanRecord.{PlanRecord}
-use Rattle.edi_picture.specs.Sheets.{Sheet}
+use Rattle.edi_picture.specs.Sheets.{DrawnSheet}
 use Rattle.edi_picture.specs.declared.mark.Mark.{Mark}
 
 -- a name, and a class of this role
@@ -38,7 +38,7 @@ pointed_record kind class points = record {
 }
 
 -- a sheet of one record of this type, with these points and this mark, which is called A&B
-abbrev pub one_record : Kind → List Point → Mark → Sheet
+abbrev pub one_record : Kind → List Point → Mark → DrawnSheet
 one_record kind points mark = record {
   plan = record { cse = None; list = pointed_record kind 0 points ∷ [] };
   name = [];
@@ -49,7 +49,7 @@ one_record kind points mark = record {
 }
 
 -- a sheet of one node, so far across
-abbrev pub lone_node : ℕ → Mark → Sheet
+abbrev pub lone_node : ℕ → Mark → DrawnSheet
 lone_node x mark = one_record Pno (known_point x 20000000 ∷ []) mark
 
 -- a frame from 0.5 to 3, and from 0 to 22.5

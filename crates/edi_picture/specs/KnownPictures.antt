@@ -9,11 +9,11 @@ use Rattle.edi_plan.specs.Plans.{PlanData}
 use Rattle.edi_plan.specs.declared.record.PlanRecord.{PlanRecord}
 use Rattle.edi_picture.specs.Known.{known_point, named_class, pointed_record}
 use Rattle.edi_picture.specs.Pictures.{IsPicture}
-use Rattle.edi_picture.specs.Sheets.{Sheet}
+use Rattle.edi_picture.specs.Sheets.{DrawnSheet}
 use Rattle.edi_picture.specs.declared.mark.Mark.TheVariants as mark
 
 -- this text is a picture of these sheets, and no other text is
-abbrev pub IsOnlyPicture : Classes → List Sheet → List ℕ → Type 0
+abbrev pub IsOnlyPicture : Classes → List DrawnSheet → List ℕ → Type 0
 IsOnlyPicture s sheets picture = (text : List ℕ) → IsPicture s sheets text ↔ (text ≡ picture)
 
 -- ---- a triangle: a node, an arc that goes round from it to it, and the face on the left of the arc
@@ -52,7 +52,7 @@ triangle_plan = record {
       ∷ link_of_two 6 Initial 1 0 ∷ link_of_two 4 Final 1 0 ∷ link_of_two 5 Left 1 2 ∷ [];
 }
 
-abbrev pub triangle_sheet : Sheet
+abbrev pub triangle_sheet : DrawnSheet
 triangle_sheet = record {
   plan = triangle_plan;
   name = codes "sheet.vec";
@@ -115,7 +115,7 @@ abbrev pub known_node : ℕ → ℕ → PlanRecord
 known_node x y = pointed_record Pno 1 (known_point x y ∷ [])
 
 -- Of A the first node is in B too, the second isn't, and the stone has another position there.
-abbrev pub nodes_of_a : Sheet
+abbrev pub nodes_of_a : DrawnSheet
 nodes_of_a = record {
   plan = record { cse = None; list = known_node 0 0 ∷ known_node 10000000 0 ∷ stone 20000000 5000000 ∷ [] };
   name = codes "a.vec";
@@ -127,7 +127,7 @@ nodes_of_a = record {
 
 -- Of B the stone is that of A; the first and the last node are new, and the one between them is the first of A, so that
 -- it isn't drawn again.
-abbrev pub nodes_of_b : Sheet
+abbrev pub nodes_of_b : DrawnSheet
 nodes_of_b = record {
   plan = record {
     cse = None;
@@ -200,7 +200,7 @@ known_arc points = pointed_record Par 0 points
 
 -- Of A the first arc goes round the first face, which B has not; it has another corner in B. The second arc doesn't
 -- close, and the second face is on its left. A node lies far off.
-abbrev pub faces_of_a : Sheet
+abbrev pub faces_of_a : DrawnSheet
 faces_of_a = record {
   plan = record {
     cse = None;
@@ -216,7 +216,7 @@ faces_of_a = record {
   labels = [] ∷ [] ∷ [] ∷ codes "12" ∷ [];
 }
 
-abbrev pub faces_of_b : Sheet
+abbrev pub faces_of_b : DrawnSheet
 faces_of_b = record {
   plan = record {
     cse = None;
@@ -270,7 +270,7 @@ picture_of_faces = top_of_two (codes "640") (codes "b.vec, records only here: 0"
 
 -- ---- a sheet without records
 
-abbrev pub blank_sheet : Sheet
+abbrev pub blank_sheet : DrawnSheet
 blank_sheet = record {
   plan = record { cse = None; list = [] };
   name = codes "sheet.vec";

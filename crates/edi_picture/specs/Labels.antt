@@ -10,7 +10,7 @@ use Rattle.edi_picture.specs.Faces.{arcs_round}
 use Rattle.edi_picture.specs.Frames.{distance, pixel}
 use Rattle.edi_picture.specs.Marks.{same_mark}
 use Rattle.edi_picture.specs.declared.mark.Mark.TheVariants.{Hidden}
-use Rattle.edi_picture.specs.Sheets.{Sheet, label_at, mark_at}
+use Rattle.edi_picture.specs.Sheets.{DrawnSheet, label_at, mark_at}
 use Rattle.edi_picture.specs.Titles.{escaped_text}
 
 -- the points of the arcs round a face
@@ -54,14 +54,14 @@ abbrev pub label_amid : Extent → ℕ → List Point → List ℕ → List ℕ
 label_amid f top [] label = []
 label_amid f top (q ∷ points) label = label_element f top (q ∷ points) label
 
-abbrev pub has_label : Sheet → ℕ → Bool
+abbrev pub has_label : DrawnSheet → ℕ → Bool
 has_label sheet k = not (same_mark Hidden (mark_at sheet k)) && not (length (label_at sheet k) == 0)
 
 -- what is written on a face, amid the points of its arcs
-abbrev pub label_text : Extent → ℕ → Sheet → ℕ → List ℕ
+abbrev pub label_text : Extent → ℕ → DrawnSheet → ℕ → List ℕ
 label_text f top sheet k =
     if has_label sheet k then label_amid f top (points_round sheet.plan k) (label_at sheet k) else []
 
 -- and on all faces of a sheet, in file order
-abbrev pub labels_of : Extent → ℕ → Sheet → List ℕ
+abbrev pub labels_of : Extent → ℕ → DrawnSheet → List ℕ
 labels_of f top sheet = flat_map (label_text f top sheet) (places_of Pfe sheet.plan)

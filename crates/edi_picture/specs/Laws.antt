@@ -7,7 +7,7 @@ use Rattle.edi_plan.specs.Plans.{PlanData, IsPlace}
 use Rattle.edi_plan.specs.Sides.{Side}
 use Rattle.edi_picture.specs.Faces.{is_beside}
 use Rattle.edi_picture.specs.Pictures.{IsPicture}
-use Rattle.edi_picture.specs.Sheets.{Sheet}
+use Rattle.edi_picture.specs.Sheets.{DrawnSheet}
 
 -- a picture finds a face beside an arc exactly if the arc has it on that side
 abbrev pub BesideIsSide : Type 0
@@ -16,5 +16,5 @@ BesideIsSide = (p : PlanData) (role : Role) (a k : ℕ) → IsPlace p a → role
 
 -- sheets have one picture at most
 abbrev pub PicturesAreOne : Type 0
-PicturesAreOne = (s : Classes) (sheets : List Sheet) (text other : List ℕ)
+PicturesAreOne = (s : Classes) (sheets : List DrawnSheet) (text other : List ℕ)
     → IsPicture s sheets text → IsPicture s sheets other → text ≡ other

@@ -10,7 +10,7 @@ use Rattle.edi_plan.specs.declared.extent.Extent.{Extent}
 use Rattle.edi_picture.specs.Frames.{is_outside, pixels, plan_height, side_length}
 use Rattle.edi_picture.specs.Marks.{colour, same_mark}
 use Rattle.edi_picture.specs.declared.mark.Mark.TheVariants.{OnlyFirst, OnlySecond, Before, Hidden}
-use Rattle.edi_picture.specs.Sheets.{Sheet, mark_at}
+use Rattle.edi_picture.specs.Sheets.{DrawnSheet, mark_at}
 use Rattle.edi_picture.specs.Titles.{file_name_text, record_title}
 use Rattle.edi_picture.specs.declared.mark.Ink.{Ink}
 use Rattle.edi_picture.specs.declared.mark.Ink.TheVariants.{Grey, Old, New}
@@ -48,17 +48,17 @@ abbrev pub legend_row : ℕ → Ink → List ℕ → List ℕ
 legend_row y ink words = sample y ink ++ codes "<text x='60" ++ words_at (y + 5) words
 
 -- a sheet by a letter and the name of its file, and how many of its records the other sheet hasn't
-abbrev pub sheet_words : List ℕ → Sheet → ℕ → List ℕ
+abbrev pub sheet_words : List ℕ → DrawnSheet → ℕ → List ℕ
 sheet_words letter sheet count =
     letter ++ file_name_text sheet.name ++ codes ", records only here: " ++ decimal count
 
-abbrev pub first_words : Sheet → List ℕ
+abbrev pub first_words : DrawnSheet → List ℕ
 first_words sheet = sheet_words (codes "A: ") sheet (count_by (same_mark OnlyFirst) sheet.marks)
 
-abbrev pub second_words : Sheet → List ℕ
+abbrev pub second_words : DrawnSheet → List ℕ
 second_words sheet = sheet_words (codes "B: ") sheet (count_by (same_mark OnlySecond) sheet.marks)
 
-abbrev pub changed_words : Sheet → List ℕ
+abbrev pub changed_words : DrawnSheet → List ℕ
 changed_words sheet =
     codes "records changed: " ++ decimal (count_by (same_mark Before) sheet.marks) ++ codes "; grey: the same in both"
 
@@ -67,19 +67,19 @@ abbrev pub tint_row : List ℕ
 tint_row = codes "<rect x='20' y='73' width='30' height='14' fill='#F0E442' fill-opacity='0.5'/>\n"
     ++ codes "<text x='60' y='85'>an outline, an object or a link changed</text>\n"
 
-abbrev pub legend_of_two : Sheet → Sheet → List ℕ
+abbrev pub legend_of_two : DrawnSheet → DrawnSheet → List ℕ
 legend_of_two first second =
     legend_row 20 Old (first_words first) ++ legend_row 40 New (second_words second)
     ++ legend_row 60 Grey (changed_words first) ++ tint_row
 
 -- the name of the file of a sheet that is drawn alone; and where there are two, what the inks say
-abbrev pub legend_text : List Sheet → List ℕ
+abbrev pub legend_text : List DrawnSheet → List ℕ
 legend_text [] = []
 legend_text (sheet ∷ []) = codes "<text x='20" ++ words_at 25 (file_name_text sheet.name)
 legend_text (first ∷ second ∷ sheets) = legend_of_two first second
 
 -- how far below the top the legend ends
-abbrev pub legend_height : List Sheet → ℕ
+abbrev pub legend_height : List DrawnSheet → ℕ
 legend_height [] = 40
 legend_height (sheet ∷ []) = 40
 legend_height (first ∷ second ∷ sheets) = 100
@@ -123,15 +123,15 @@ bar_text f top bar = north_text ++ bar_below f top bar
 -- ---- what isn't drawn
 
 -- a node whose mark doesn't hide it lies outside of the frame
-abbrev pub is_far : Extent → Sheet → ℕ → Bool
+abbrev pub is_far : Extent → DrawnSheet → ℕ → Bool
 is_far f sheet k =
     not (same_mark Hidden (mark_at sheet k)) && list_any (is_outside f) (record_at sheet.plan k).points
 
 -- the names of those nodes of a sheet
-abbrev pub far_name : Classes → Sheet → ℕ → List ℕ
+abbrev pub far_name : Classes → DrawnSheet → ℕ → List ℕ
 far_name s sheet k = codes " " ++ record_title s sheet k ++ codes ";"
 
-abbrev pub far_names : Classes → Extent → Sheet → List ℕ
+abbrev pub far_names : Classes → Extent → DrawnSheet → List ℕ
 far_names s f sheet = flat_map (far_name s sheet) (filter (is_far f sheet) (places_of Pno sheet.plan))
 
 -- a line that names some, if there are any
@@ -140,5 +140,5 @@ far_line y [] = []
 far_line y (c ∷ names) = codes "<text x='20" ++ words_at y (codes "far off:" ++ (c ∷ names))
 
 -- the line of the nodes of all sheets that are far off
-abbrev pub far_text : Classes → Extent → List Sheet → ℕ → List ℕ
+abbrev pub far_text : Classes → Extent → List DrawnSheet → ℕ → List ℕ
 far_text s f sheets y = far_line y (flat_map (far_names s f) sheets)

@@ -14,7 +14,7 @@ use Rattle.edi_picture.specs.declared.mark.Mark.TheVariants.{Hidden}
 
 -- a plan and the name of its file; and of each record the identifier, the mark, whether it is tinted if it is a face,
 -- and what is written on it then
-pub record Sheet : Type 0 where
+pub record DrawnSheet : Type 0 where
   pub plan : PlanData
   pub name : List ℕ
   pub identifiers : List (List ℕ)
@@ -23,16 +23,16 @@ pub record Sheet : Type 0 where
   pub labels : List (List ℕ)
 
 -- these of the record at a place
-abbrev pub identifier_at : Sheet → ℕ → List ℕ
+abbrev pub identifier_at : DrawnSheet → ℕ → List ℕ
 identifier_at sheet k = slice_index_or sheet.identifiers k []
 
-abbrev pub mark_at : Sheet → ℕ → Mark
+abbrev pub mark_at : DrawnSheet → ℕ → Mark
 mark_at sheet k = slice_index_or sheet.marks k Hidden
 
-abbrev pub tint_at : Sheet → ℕ → Bool
+abbrev pub tint_at : DrawnSheet → ℕ → Bool
 tint_at sheet k = slice_index_or sheet.tints k false
 
-abbrev pub label_at : Sheet → ℕ → List ℕ
+abbrev pub label_at : DrawnSheet → ℕ → List ℕ
 label_at sheet k = slice_index_or sheet.labels k []
 
 -- the type and the identifier of a class
@@ -40,14 +40,14 @@ abbrev pub class_name : Classes → ℕ → Name
 class_name s class = unwrap_or (class_name_at s class) (record { rty = []; rid = [] })
 
 -- the points of all plans, and those of their arcs
-abbrev pub all_points : List Sheet → List Point
+abbrev pub all_points : List DrawnSheet → List Point
 all_points sheets = flat_map (λ sheet. points_of sheet.plan) sheets
 
 abbrev pub arc_points_of : PlanData → List Point
 arc_points_of p = flat_map (λ k. (record_at p k).points) (places_of Par p)
 
-abbrev pub arc_points : List Sheet → List Point
+abbrev pub arc_points : List DrawnSheet → List Point
 arc_points sheets = flat_map (λ sheet. arc_points_of sheet.plan) sheets
 
-abbrev pub AllHaveClasses : Classes → List Sheet → Type 0
+abbrev pub AllHaveClasses : Classes → List DrawnSheet → Type 0
 AllHaveClasses s sheets = AllByRecursion (λ sheet. HasClasses s sheet.plan) sheets

@@ -7,7 +7,7 @@ use Rattle.edi_record.specs.declared.name.Name.{Name}
 use Rattle.edi_schema.specs.Classes.{Classes}
 use Rattle.edi_plan.specs.Plans.{record_at}
 use Rattle.edi_picture.specs.Marks.{mark_words}
-use Rattle.edi_picture.specs.Sheets.{Sheet, class_name, identifier_at, mark_at}
+use Rattle.edi_picture.specs.Sheets.{DrawnSheet, class_name, identifier_at, mark_at}
 
 -- the marks of XML, `&`, `<` and `>`
 abbrev pub ampersand : ℕ
@@ -42,12 +42,12 @@ abbrev pub class_title : Name → List ℕ
 class_title class = escaped_text class.rty ++ codes ";" ++ escaped_text class.rid
 
 -- TYPE IDENTIFIER CLASS
-abbrev pub record_title : Classes → Sheet → ℕ → List ℕ
+abbrev pub record_title : Classes → DrawnSheet → ℕ → List ℕ
 record_title s sheet k = kind_code (record_at sheet.plan k).kind ++ codes " "
     ++ escaped_text (identifier_at sheet k) ++ codes " " ++ class_title (class_name s (record_at sheet.plan k).class)
 
 -- that, what its mark says, and these words
-abbrev pub title_text : Classes → Sheet → ℕ → List ℕ → List ℕ
+abbrev pub title_text : Classes → DrawnSheet → ℕ → List ℕ → List ℕ
 title_text s sheet k words =
     codes "<title>" ++ record_title s sheet k ++ mark_words (mark_at sheet k) ++ words ++ codes "</title>"
 

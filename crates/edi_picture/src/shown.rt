@@ -37,9 +37,9 @@ impl Drop for Shown<'_> {
 
 impl<'a> Model for Shown<'a> {
     ghost use Rattle.std.specs.Prelude.{map};
-    ghost use Rattle.edi_picture.specs.Sheets.{Sheet};
+    ghost use Rattle.edi_picture.specs.Sheets.{DrawnSheet};
 
-    ghost Value = { Sheet };
+    ghost Value = { DrawnSheet };
 
     ghost view = { λ s. record {
       plan = s.plan.now;

@@ -9,7 +9,7 @@ ghost use Rattle.edi_plan.specs.inner.Names.{name_lent, IsFirstRepeatedNameIfAny
 ghost use Rattle.edi_plan.specs.inner.Found.{FindsAll};
 
 use crate::name_slots::NameHints;
-use crate::names::{Names, RecordNameRef, links_rise};
+use crate::names::{NameTable, RecordNameRef, links_rise};
 use edi_record::SheetRecords;
 use std::alloc::{AllocError, Global};
 
@@ -17,7 +17,7 @@ use std::alloc::{AllocError, Global};
 /// sheets the table, its key and look-ups there.
 pub(crate) enum NamePlaces<'a> {
     Hinted(NameHints),
-    Tabled(Names<'a>),
+    Tabled(NameTable<'a>),
 }
 
 impl Drop for NamePlaces<'_> {
@@ -40,7 +40,7 @@ impl<'a> NamePlaces<'a> {
     {
         match NameHints::among(alloc, links_rise(records), records)? {
             Some(hints) => Ok(NamePlaces::Hinted(hints)),
-            None => Ok(NamePlaces::Tabled(Names::among(alloc, records)?)),
+            None => Ok(NamePlaces::Tabled(NameTable::among(alloc, records)?)),
         }
     }
 

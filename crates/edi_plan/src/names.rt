@@ -41,14 +41,14 @@ impl<'a> Hash for RecordNameRef<'a> {
 }
 
 /// The place of the first record of each name, and that of the first record with the name of an earlier one.
-pub(crate) struct Names<'a> {
+pub(crate) struct NameTable<'a> {
     pub(crate) places: IndexMap<RecordNameRef<'a>, u32, NameHash>,
     pub(crate) repeat: Option<usize>,
 }
 
-impl Drop for Names<'_> {
+impl Drop for NameTable<'_> {
     fn drop(self) {
-        let Names {
+        let NameTable {
             places: _,
             repeat: _,
         } = self;
@@ -194,9 +194,12 @@ pub(crate) fn place_or<'a>(
     Ok(*places.entry(name)?.or_insert(place))
 }
 
-impl<'a> Names<'a> {
+impl<'a> NameTable<'a> {
     /// The names of records, by their places from 0.
-    pub(crate) fn among(alloc: Global, records: &'a SheetRecords) -> Result<Names<'a>, AllocError>
+    pub(crate) fn among(
+        alloc: Global,
+        records: &'a SheetRecords,
+    ) -> Result<NameTable<'a>, AllocError>
         requires { length records.now ≤ most_records }
         ensures names { IfOk result (AreFirstPlaces records.now) }
         ensures repeat { IfOk result (λ names. IsFirstRepeatedNameIfAny records.now names.repeat) }
@@ -216,6 +219,6 @@ impl<'a> Names<'a> {
                 repeat = repeat.or(Some(place));
             }
         }
-        Ok(Names { places, repeat })
+        Ok(NameTable { places, repeat })
     }
 }

@@ -8,7 +8,7 @@ use Rattle.edi_record.specs.declared.record.Kind.TheVariants.{Pno, Par, Pfe, Fea
 use Rattle.edi_plan.specs.Places.{places_of}
 use Rattle.edi_plan.specs.Plans.{record_at}
 use Rattle.edi_report.specs.Reports.{Report, parts_at, site_at}
-use Rattle.edi_report.specs.declared.parts.Parts.{Parts}
+use Rattle.edi_report.specs.declared.parts.DifferingParts.{DifferingParts}
 use Rattle.edi_report.specs.declared.sheet.LocatedSheet.{LocatedSheet}
 use Rattle.edi_shown.specs.Shown.{shown_bytes}
 
@@ -25,16 +25,16 @@ lone_line sign sheet k = sign ++ record_name_text sheet k
 abbrev pub word_if : Bool → List ℕ → List ℕ
 word_if said word = if said then word else []
 
-abbrev pub some_differ : Parts → Bool
+abbrev pub some_differ : DifferingParts → Bool
 some_differ parts = parts.class || (parts.attributes || (parts.extras || (parts.points || parts.ends)))
 
-abbrev pub words_text : Parts → List ℕ
+abbrev pub words_text : DifferingParts → List ℕ
 words_text parts = word_if parts.class (codes " class") ++ word_if parts.attributes (codes " attributes")
     ++ word_if parts.extras (codes " extras") ++ word_if parts.points (codes " points")
     ++ word_if parts.ends (codes " ends")
 
 -- the parts that differ; or where none does, that this holds of records only that a link joins with it
-abbrev pub parts_text : Parts → List ℕ
+abbrev pub parts_text : DifferingParts → List ℕ
 parts_text parts = if some_differ parts then words_text parts else codes " linked records"
 
 abbrev pub both_lines : ℕ → ℕ → List ℕ

@@ -13,7 +13,7 @@ pub mod site;
 pub mod values;
 
 pub use marks::marks_of;
-pub use parts::{NO_PARTS, Parts, parts_at};
+pub use parts::{DifferingParts, NO_PARTS, parts_at};
 pub use report::Reporter;
 pub use sheet::{LocatedSheet, locate_both, locate_from};
 pub use site::Site;

@@ -6,7 +6,7 @@ ghost use Rattle.edi_report.specs.Lines.{both_lines, charset_change, charset_cha
 ghost use Rattle.edi_report.specs.Reports.{HasSites};
 ghost use Rattle.edi_shown.specs.Shown.{shown_bytes};
 
-use crate::parts::Parts;
+use crate::parts::DifferingParts;
 use crate::sheet::LocatedSheet;
 use edi_line::push_number;
 use edi_shown::push_shown;
@@ -57,7 +57,7 @@ fn push_word(text: &mut Vec<u8>, said: bool, word: &[u8]) -> Result<(), AllocErr
 }
 
 /// Appends the words for the parts that differ.
-pub fn push_words(text: &mut Vec<u8>, parts: &Parts) -> Result<(), AllocError>
+pub fn push_words(text: &mut Vec<u8>, parts: &DifferingParts) -> Result<(), AllocError>
     ensures { OnOk result (text.new.items ≡ text.old.items ++ words_text parts.now) }
 {
     push_word(text, parts.class, b" class")?;
@@ -68,7 +68,7 @@ pub fn push_words(text: &mut Vec<u8>, parts: &Parts) -> Result<(), AllocError>
 }
 
 /// Appends the parts that differ, or that none does.
-pub(crate) fn push_parts(text: &mut Vec<u8>, parts: &Parts) -> Result<(), AllocError>
+pub(crate) fn push_parts(text: &mut Vec<u8>, parts: &DifferingParts) -> Result<(), AllocError>
     ensures { OnOk result (text.new.items ≡ text.old.items ++ parts_text parts.now) }
 {
     if parts.some_differ() {

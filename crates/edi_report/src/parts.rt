@@ -4,7 +4,7 @@ ghost use Rattle.edi_report.specs.Lines.{some_differ};
 
 /// The parts in which a record and the one that it became differ.
 #[derive(Clone, Copy, PartialEq, Eq)]
-pub struct Parts {
+pub struct DifferingParts {
     /// Their classes, after the reversals of arcs.
     pub class: bool,
     /// Their attributes.
@@ -18,7 +18,7 @@ pub struct Parts {
 }
 
 /// The parts of a record that has none that differ.
-pub const NO_PARTS: Parts = Parts {
+pub const NO_PARTS: DifferingParts = DifferingParts {
     class: false,
     attributes: false,
     extras: false,
@@ -26,7 +26,7 @@ pub const NO_PARTS: Parts = Parts {
     ends: false,
 };
 
-impl Parts {
+impl DifferingParts {
     /// Whether some part differs.
     pub fn some_differ(&self) -> bool
         ensures { result ≡ some_differ self.now }
@@ -36,7 +36,7 @@ impl Parts {
 }
 
 /// The parts of the record at a place, of which none differs where none are given.
-pub fn parts_at(parts: &[Parts], place: usize) -> Parts
+pub fn parts_at(parts: &[DifferingParts], place: usize) -> DifferingParts
     ensures { result ≡ parts_at parts.now place }
 {
     match parts.get(place) {

@@ -7,7 +7,7 @@ ghost use Rattle.edi_report.specs.Lines.{added_count, brief_text, changed_count,
 use crate::lines::{
     push_both_lines, push_charset, push_counted, push_lone, push_name, push_other, push_parts,
 };
-use crate::parts::{Parts, parts_at};
+use crate::parts::{DifferingParts, parts_at};
 use crate::sheet::LocatedSheet;
 use edi_record::Kind;
 use std::alloc::{AllocError, Global};
@@ -23,7 +23,7 @@ pub struct Reporter<'a> {
     /// For each record of the first sheet the one of the second that it is or became.
     pub became: &'a [Option<u32>],
     /// The parts in which those that changed differ.
-    pub parts: &'a [Parts],
+    pub parts: &'a [DifferingParts],
     /// Of each record of the second sheet, whether it is one of the first, or one of these became it.
     pub reached: &'a [bool],
 }

@@ -8,10 +8,10 @@ use Rattle.edi_line.specs.ZoneData.{ZoneData}
 use Rattle.edi_line.specs.Printing.{printed, printed_zone}
 use Rattle.edi_plan.specs.Plans.{IsPlace}
 use Rattle.edi_write.specs.declared.openings.Opening.{Opening}
-use Rattle.edi_write.specs.inner.LabelledPlans.{Labelled}
+use Rattle.edi_write.specs.inner.LabelledPlans.{LabelledPlanData}
 use Rattle.edi_write.specs.inner.Openings.{opening_of}
 
-module _ (l : Labelled) where
+module _ (l : LabelledPlanData) where
   abbrev pub IsOpened : Opening → Type 0
   IsOpened o = IsPlace l.plan o.place × (o ≡ opening_of l o.place)
 

@@ -14,9 +14,9 @@ pub(crate) struct LabelledPlan<'a> {
 }
 
 impl<'a> Model for LabelledPlan<'a> {
-    ghost use Rattle.edi_write.specs.inner.LabelledPlans.{Labelled, AreItsLabels};
+    ghost use Rattle.edi_write.specs.inner.LabelledPlans.{LabelledPlanData, AreItsLabels};
 
-    ghost Value = { Labelled };
+    ghost Value = { LabelledPlanData };
 
     ghost view = { λ l. record { classes = l.schema.now; plan = l.plan.now; labels = l.labels.now } };
 

@@ -15,7 +15,7 @@ use Rattle.edi_words.specs.Requests.{IsAsked, is_standard_path}
 use Rattle.edi_words.specs.declared.words.Misuse.{Misuse}
 use Rattle.edi_answers.specs.Effects.{Effects, Stream}
 use Rattle.edi_answers.specs.Misuses.{misuse_lines, not_text_lines, shows_words}
-use Rattle.edi_answers.specs.Notes.{InTurn, IsNoteOf, Notes}
+use Rattle.edi_answers.specs.Notes.{InTurn, IsNoteOf, WritesNoteIfAny}
 use Rattle.edi_answers.specs.Statuses.{IsBundleStatus, IsCompareStatus, IsFileStatus, IsPairingStatus, IsVerifyStatus, Complains, LacksMemory, Prints, Warns}
 use Rattle.edicad.specs.Forms.{answer_form_asked, form_asked}
 use Rattle.edicad.specs.Statuses.{IsDiffStatus, IsPictureStatus, IsPutStatus, IsSendStatus}
@@ -102,7 +102,7 @@ IsReplied run listings out err (Answered status) s = run.untouched × (s ≡ sta
 -- class has, if there is one.
 abbrev pub IsAnswered : Effects → Listings → Stream → Stream → Request → ℕ → Type 0
 IsAnswered run listings out err request s = (note : List ℕ) × IsNoteOf run.inputs request s note
-    × InTurn err (λ e. IsReplied run listings out e request s) (λ e. Notes e note)
+    × InTurn err (λ e. IsReplied run listings out e request s) (λ e. WritesNoteIfAny e note)
 
 -- the words could not be had: not all are UTF-8, or memory ran out
 abbrev pub IsUnread : Effects → Stream → Stream → ℕ → Type 0

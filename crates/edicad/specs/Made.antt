@@ -5,7 +5,7 @@ use Rattle.edi_compare.specs.declared.fault.RunFault.{RunFault}
 use Rattle.edi_compare.specs.declared.fault.RunFault.TheVariants.{Write}
 use Rattle.edi_compare.specs.Runs.{BeforeWriting, IsCanonOf}
 use Rattle.edi_diff.specs.declared.differing.Difference.{Difference}
-use Rattle.edi_drawing.specs.Drawn.{FileNames}
+use Rattle.edi_drawing.specs.Drawn.{TwoFileNames}
 use Rattle.edi_drawing.specs.UnderFiles.{IsDrawnDifferenceUnder, IsPictureUnder}
 use Rattle.edi_drawing.specs.declared.drawn.DrawnDifference.{DrawnDifference}
 use Rattle.edi_words.specs.declared.words.PairFiles.{PairFiles}
@@ -55,17 +55,17 @@ IsReplaced run product kinds files out =
     run.Replaces out (λ bytes. OfFiles run.inputs files (λ s d v. IsMadeOf product kinds files.vec.now s d v bytes))
 
 -- the names of the files of two sheets, as they were given
-abbrev pub names_of_pair : PairFiles → FileNames
+abbrev pub names_of_pair : PairFiles → TwoFileNames
 names_of_pair files = record { first = files.first.now; second = files.second.now }
 
 -- this differs between the two sheets of these names, and the bytes are a picture that shows it
-abbrev pub ShowsDifference : KindCodes → FileNames → TextForm → Difference → List ℕ → List ℕ → List ℕ → List ℕ → List ℕ
-    → Type 0
+abbrev pub ShowsDifference : KindCodes → TwoFileNames → TextForm → Difference → List ℕ → List ℕ → List ℕ → List ℕ
+    → List ℕ → Type 0
 ShowsDifference kinds names form difference s d a b bytes =
     (drawn : DrawnDifference) × IsDrawnDifferenceUnder kinds names s d a b form drawn × (drawn.difference ≡ difference)
     × (drawn.picture.items ≡ bytes)
 
 -- the bytes are a picture that shows what differs between the two sheets
-abbrev pub IsPictureOfPair : KindCodes → FileNames → TextForm → List ℕ → List ℕ → List ℕ → List ℕ → List ℕ → Type 0
+abbrev pub IsPictureOfPair : KindCodes → TwoFileNames → TextForm → List ℕ → List ℕ → List ℕ → List ℕ → List ℕ → Type 0
 IsPictureOfPair kinds names form s d a b bytes =
     (difference : Difference) × ShowsDifference kinds names form difference s d a b bytes

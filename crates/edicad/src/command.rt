@@ -24,7 +24,7 @@ use edi_deliveries::deliveries::answer_paths;
 use edi_deliveries::manifests::put_manifest;
 use edi_diff::{Difference, TextForm};
 use edi_files::Product::{self, Canonical, Picture};
-use edi_files::{CommandLine, Disk, Errors, Folder, Listing, Progress, Words};
+use edi_files::{CommandLine, Disk, Errors, Folder, Listing, Progress, WordSource};
 use edi_line::{ByteOut, ToWrite};
 use edi_outcome::Outcome;
 use edi_words::{
@@ -56,7 +56,7 @@ pub fn run<R: Runtime + Files<File = File> + AllocGlobal>(rt: &R, is_terminal: b
 /// Does what the words of a line ask for, over a folder and two streams, and gives the exit status.
 pub fn run_line<
     R: Eprint + AllocGlobal,
-    W: Words,
+    W: WordSource,
     F: Folder + Listing,
     O: ByteOut,
     E: ByteOut + Progress,

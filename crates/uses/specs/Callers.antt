@@ -18,7 +18,7 @@ use Rattle.edi_pairing.specs.NamedSheets.{IsNamedSheet}
 use Rattle.edi_pairing.specs.declared.names.RecordName.{RecordName}
 use Rattle.edi_pairing.specs.declared.sheets.NamedSheet.{NamedSheet}
 use Rattle.edi_picture.specs.Pictures.{IsPicture}
-use Rattle.edi_picture.specs.Sheets.{Sheet}
+use Rattle.edi_picture.specs.Sheets.{DrawnSheet}
 use Rattle.edi_picture.specs.declared.mark.Mark.TheVariants.{Plain}
 use Rattle.uses.specs.declared.sheets.Unwritten.{Unwritten}
 use Rattle.uses.specs.declared.sheets.Unwritten.TheVariants.{Refused, Failed}
@@ -65,7 +65,7 @@ IsNumberOfName s b name number = (sheet : NamedSheet) × (labels : Labelling) ×
     × AreLabels s sheet.accepted labels × (number ≡ option_map (number_of labels) (position (same_name name) sheet.names))
 
 -- a sheet as it is drawn without marks: each record with its identifier, no face tinted, and nothing written on faces
-abbrev pub unmarked_sheet : List ℕ → NamedSheet → Sheet
+abbrev pub unmarked_sheet : List ℕ → NamedSheet → DrawnSheet
 unmarked_sheet name sheet = record {
   plan = sheet.accepted;
   name = name;

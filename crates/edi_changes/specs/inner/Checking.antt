@@ -10,8 +10,8 @@ use Rattle.edi_answers.specs.Statuses.{Warns}
 use Rattle.edi_changes.specs.Checks.{IsFilePath, IsNoFilePath}
 use Rattle.edi_changes.specs.declared.checks.NoDigest.{NoDigest}
 use Rattle.edi_changes.specs.declared.checks.NoDigest.TheVariants.{NoFile, Fault}
-use Rattle.edi_changes.specs.declared.verdict.Said.{Said}
-use Rattle.edi_changes.specs.declared.verdict.Said.TheVariants.{Whole, CutOff}
+use Rattle.edi_changes.specs.declared.verdict.LineOutcome.{LineOutcome}
+use Rattle.edi_changes.specs.declared.verdict.LineOutcome.TheVariants.{Whole, CutOff}
 
 -- why the sheet of a name in a list has no digest
 abbrev pub MatchNoDigest : Inputs → Classes → List ℕ → NoDigest → Type 0
@@ -24,15 +24,15 @@ TellsNoDigest why err (NoFile line) status = Warns err line.now × (status ≡ 4
 TellsNoDigest why err (Fault path e) status = TellsFault why err e path.now status
 
 -- what was said of a line: this where it is whole, and that where the output failed in it
-abbrev pub IsSaidAs : Reply → Reply → Stream → Stream → Said → Type 0
+abbrev pub IsSaidAs : Reply → Reply → Stream → Stream → LineOutcome → Type 0
 IsSaidAs Gives Fails out err (Whole status) = Gives out err status
 IsSaidAs Gives Fails out err (CutOff status) = Fails out err status
 
-abbrev pub status_of_said : Said → ℕ
+abbrev pub status_of_said : LineOutcome → ℕ
 status_of_said (Whole status) = status
 status_of_said (CutOff status) = status
 
 -- the same with a status that is no less
-abbrev pub at_least : ℕ → Said → Said
+abbrev pub at_least : ℕ → LineOutcome → LineOutcome
 at_least least (Whole status) = Whole (max least status)
 at_least least (CutOff status) = CutOff (max least status)

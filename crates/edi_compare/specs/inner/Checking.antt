@@ -14,7 +14,7 @@ use Rattle.edi_compare.specs.declared.uncarried.Uncarried.TheVariants.{Entries, 
 use Rattle.edi_compare.specs.declared.uncarried.WrongPartner.{WrongPartner}
 
 -- two plans of one schema, the places that the records of the first go to, and which of them are turned
-pub record Matching : Type 0 where
+pub record PairedPlans : Type 0 where
   pub classes : Classes
   pub plan : PlanData
   pub other : PlanData
@@ -22,30 +22,30 @@ pub record Matching : Type 0 where
   pub turned : List Bool
 
 -- each record has an entry
-pub record HasEntryForEach (m : Matching) : Type 0 where
+pub record HasEntryForEach (m : PairedPlans) : Type 0 where
   pub classed : HasClasses m.classes m.plan
   pub all_paired : length m.to ≡ length m.plan.list
   pub all_directed : length m.turned ≡ length m.plan.list
 
 -- the record at the place is carried, or isn't by this
-abbrev pub IsCarriedAt : Matching → ℕ → Type 0
+abbrev pub IsCarriedAt : PairedPlans → ℕ → Type 0
 IsCarriedAt m i = IsCarried m.classes (slice_index m.to) (turned_at m.turned) m.plan m.other i
 
-abbrev pub IsWrongAt : Matching → ℕ → WrongPartner → Type 0
+abbrev pub IsWrongAt : PairedPlans → ℕ → WrongPartner → Type 0
 IsWrongAt m i why = IsWrongPartner m.classes (slice_index m.to) (turned_at m.turned) m.plan m.other i why
 
 -- the record at the place i is that at the place j of the other plan
-abbrev pub IsCarriedTo : Matching → ℕ → ℕ → Type 0
+abbrev pub IsCarriedTo : PairedPlans → ℕ → ℕ → Type 0
 IsCarriedTo m i j =
     CarriesRecord m.classes (slice_index m.to) (turned_at m.turned) i (record_at m.plan i) (record_at m.other j)
 
 -- the two agree in a part
-abbrev pub AgreeAt : Matching → ℕ → ℕ → RecordPart → Type 0
+abbrev pub AgreeAt : PairedPlans → ℕ → ℕ → RecordPart → Type 0
 AgreeAt m i j part =
     AgreeIn m.classes (slice_index m.to) (turned_at m.turned) i (record_at m.plan i) (record_at m.other j) part
 
 -- it is the first part in which they don't
-abbrev pub IsUnlikeAt : Matching → ℕ → ℕ → RecordPart → Type 0
+abbrev pub IsUnlikeAt : PairedPlans → ℕ → ℕ → RecordPart → Type 0
 IsUnlikeAt m i j part =
     IsFirstUnlike m.classes (slice_index m.to) (turned_at m.turned) i (record_at m.plan i) (record_at m.other j) part
 
@@ -56,12 +56,12 @@ pub record AreMarked (to : ℕ → ℕ) (marks : List Bool) (count done : ℕ) :
   pub marked : (k : ℕ) → k < done → slice_index_or marks (to k) false ≡ true
 
 -- each record is carried, and one goes to each of the second plan
-pub record AreCarried (m : Matching) : Type 0 where
+pub record AreCarried (m : PairedPlans) : Type 0 where
   pub each : (i : ℕ) → IsPlace m.plan i → IsCarriedAt m i
   pub onto : (j : ℕ) → IsPlace m.other j → (i : ℕ) × IsPlace m.plan i × (slice_index m.to i ≡ j)
 
 -- what isn't so of two plans, where there is an entry for each record and one character set
-abbrev pub FailsBy : Matching → Uncarried → Type 0
+abbrev pub FailsBy : PairedPlans → Uncarried → Type 0
 FailsBy m Entries = ⊥
 FailsBy m CharacterSets = ⊥
 FailsBy m (Record i why) = IsFirstUncarried m.classes (slice_index m.to) (turned_at m.turned) m.plan m.other i why

@@ -6,8 +6,8 @@ use Rattle.edi_compare.specs.declared.fault.RunFault.{RunFault}
 use Rattle.edi_compare.specs.Runs.{RefusesSchema, RefusesSheet, RefusesSecond, MatchFault}
 
 -- the fault of a sheet that was read: its schema is refused, or itself
-abbrev pub SheetFault : KindCodes → List ℕ → List ℕ → List ℕ → RunFault → Type 0
-SheetFault kinds scd dic b e =
+abbrev pub OneSheetFault : KindCodes → List ℕ → List ℕ → List ℕ → RunFault → Type 0
+OneSheetFault kinds scd dic b e =
     MatchFault e (λ _. ⊥) (λ _. ⊥) (RefusesSchema kinds scd dic) (RefusesSheet kinds scd dic b) (λ _. ⊥) (λ _. ⊥)
 
 -- the fault of two sheets that were read: their schema is refused, or the first, or the second

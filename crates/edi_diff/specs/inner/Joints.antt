@@ -10,32 +10,32 @@ use Rattle.edi_plan.specs.declared.record.PlanRecord.{PlanRecord}
 use Rattle.edi_diff.specs.declared.proposing.LinkClass.{LinkClass}
 use Rattle.edi_diff.specs.contracts.proposing.LinkClassOrd.TheImpl.{ghosts as link_classes}
 use Rattle.edi_diff.specs.inner.Codes.{code_at, is_of_second, place_by}
-use Rattle.edi_diff.specs.inner.Progress.{Progress, link_class_at, known_name, plan_of}
+use Rattle.edi_diff.specs.inner.Progress.{ChangesSoFar, link_class_at, known_name, plan_of}
 
 -- that a link joins a record without a name with one that has a name, by the class of the link and that name; else
 -- nothing
-abbrev pub joint_of : Progress → ℕ → ℕ → ℕ → List (ℕ × (LinkClass × ℕ))
+abbrev pub joint_of : ChangesSoFar → ℕ → ℕ → ℕ → List (ℕ × (LinkClass × ℕ))
 joint_of m link place with_place =
     if is_some (known_name m (is_of_second link) place) then []
     else map (λ name. (code_at (is_of_second link) place, (link_class_at m (is_of_second link) (place_by link), name)))
     (option_to_list (known_name m (is_of_second link) with_place))
 
 -- what a link joins: its origin with each other end, and that with its origin
-abbrev pub joints_by_ends : Progress → ℕ → List PlanEnd → List (ℕ × (LinkClass × ℕ))
+abbrev pub joints_by_ends : ChangesSoFar → ℕ → List PlanEnd → List (ℕ × (LinkClass × ℕ))
 joints_by_ends m link [] = []
 joints_by_ends m link (origin ∷ others) =
     flat_map (λ end. joint_of m link origin.target end.target ++ joint_of m link end.target origin.target) others
 
 -- the record with a code
-abbrev pub record_by : Progress → ℕ → PlanRecord
+abbrev pub record_by : ChangesSoFar → ℕ → PlanRecord
 record_by m code = record_at (plan_of m (is_of_second code)) (place_by code)
 
 -- what the link with a code joins
-abbrev pub joints_of : Progress → ℕ → List (ℕ × (LinkClass × ℕ))
+abbrev pub joints_of : ChangesSoFar → ℕ → List (ℕ × (LinkClass × ℕ))
 joints_of m link = joints_by_ends m link (record_by m link).ends
 
 -- what the links of both plans join
-abbrev pub all_joints : Progress → List (ℕ × (LinkClass × ℕ))
+abbrev pub all_joints : ChangesSoFar → List (ℕ × (LinkClass × ℕ))
 all_joints m =
     flat_map (λ place. joints_of m (code_at false place)) (places_of Lnk m.plan)
     ++ flat_map (λ place. joints_of m (code_at true place)) (places_of Lnk m.other)
@@ -45,7 +45,7 @@ abbrev pub joint_cmp : (ℕ × (LinkClass × ℕ)) → (ℕ × (LinkClass × ℕ
 joint_cmp a b = ordering_then (nat_cmp a.0 b.0) (ordering_then (link_classes.cmp a.1.0 b.1.0) (nat_cmp a.1.1 b.1.1))
 
 -- what the links of both plans join, in order
-pub record AreJoints (m : Progress) (joints : List (ℕ × (LinkClass × ℕ))) : Type 0 where
+pub record AreJoints (m : ChangesSoFar) (joints : List (ℕ × (LinkClass × ℕ))) : Type 0 where
   pub all : IsPermutation (all_joints m) joints
   pub sorted : IsSorted joint_cmp joints
 

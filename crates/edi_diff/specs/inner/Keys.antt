@@ -20,7 +20,7 @@ use Rattle.edi_diff.specs.contracts.proposing.LinkClassOrd.TheImpl.{ghosts as li
 use Rattle.edi_diff.specs.declared.proposing.LinkClass.{LinkClass}
 use Rattle.edi_diff.specs.inner.Codes.{is_of_second, place_by}
 use Rattle.edi_diff.specs.inner.Joints.{joined_with, record_by}
-use Rattle.edi_diff.specs.inner.Progress.{Progress, link_class_at, known_name, plan_of}
+use Rattle.edi_diff.specs.inner.Progress.{ChangesSoFar, link_class_at, known_name, plan_of}
 
 -- there is a record at the place
 abbrev pub is_there : PlanData → ℕ → Bool
@@ -48,7 +48,7 @@ if_any [] = None
 if_any (x ∷ xs) = Some (x ∷ xs)
 
 -- a record, but for a link, by its type and what links join it with, if they join it with anything
-abbrev pub joined_key : Progress → List (ℕ × (LinkClass × ℕ)) → ℕ → Option (Kind × List (LinkClass × ℕ))
+abbrev pub joined_key : ChangesSoFar → List (ℕ × (LinkClass × ℕ)) → ℕ → Option (Kind × List (LinkClass × ℕ))
 joined_key m joints code =
     if is_there (plan_of m (is_of_second code)) (place_by code) && not (is_link (record_by m code).kind)
     then option_map (λ names. ((record_by m code).kind, names)) (if_any (joined_with joints code))
@@ -61,7 +61,7 @@ all_known (None ∷ xs) = None
 all_known (Some x ∷ xs) = option_map (λ rest. x ∷ rest) (all_known xs)
 
 -- a link by its class and the names of its ends, if each has one
-abbrev pub named_ends_key : Progress → ℕ → Option (LinkClass × List ℕ)
+abbrev pub named_ends_key : ChangesSoFar → ℕ → Option (LinkClass × List ℕ)
 named_ends_key m code =
     if is_there (plan_of m (is_of_second code)) (place_by code) && is_link (record_by m code).kind
     then option_map (λ names. (link_class_at m (is_of_second code) (place_by code), names))

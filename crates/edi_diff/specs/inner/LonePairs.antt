@@ -10,7 +10,7 @@ use Rattle.edi_diff.specs.declared.proposing.LinkClass.{LinkClass}
 use Rattle.edi_diff.specs.inner.Codes.{is_of_second, place_by, proposal_by}
 use Rattle.edi_diff.specs.inner.Joints.{AreJoints}
 use Rattle.edi_diff.specs.inner.Keys.{contents_key, contents_key_cmp, named_ends_key, ends_key_cmp, joined_key, joined_key_cmp, points_key, points_key_cmp}
-use Rattle.edi_diff.specs.inner.Progress.{Progress, open_codes, plan_of}
+use Rattle.edi_diff.specs.inner.Progress.{ChangesSoFar, open_codes, plan_of}
 
 -- a record with its key, if it has one
 abbrev pub with_code : {K : Type 0} → Option K → ℕ → List (K × ℕ)
@@ -65,29 +65,29 @@ abbrev pub AreLoneNeighbours : {K : Type 0} → (K → K → Ordering) → List 
 AreLoneNeighbours cmp pairs found = (w : Proposal) → Contains found w ↔ ((at : ℕ) × IsLoneAt cmp pairs at w)
 
 -- what is proposed of the records that are still open: nodes and arcs by their points
-abbrev pub AreByPoints : Progress → List Proposal → Type 0
+abbrev pub AreByPoints : ChangesSoFar → List Proposal → Type 0
 AreByPoints m found =
     AreLonePairs points_key_cmp
     (with_keys (λ code. points_key (plan_of m (is_of_second code)) (place_by code)) (open_codes m)) found
 
 -- records by their contents
-abbrev pub AreByContents : Progress → List Proposal → Type 0
+abbrev pub AreByContents : ChangesSoFar → List Proposal → Type 0
 AreByContents m found =
     AreLonePairs contents_key_cmp
     (with_keys (λ code. contents_key (plan_of m (is_of_second code)) (place_by code)) (open_codes m)) found
 
 -- records by what links join them with
-abbrev pub AreByJoints : Progress → List Proposal → Type 0
+abbrev pub AreByJoints : ChangesSoFar → List Proposal → Type 0
 AreByJoints m found =
     (joints : List (ℕ × (LinkClass × ℕ))) × AreJoints m joints
     × AreLonePairs joined_key_cmp (with_keys (joined_key m joints) (open_codes m)) found
 
 -- links by their ends
-abbrev pub AreByEnds : Progress → List Proposal → Type 0
+abbrev pub AreByEnds : ChangesSoFar → List Proposal → Type 0
 AreByEnds m found = AreLonePairs ends_key_cmp (with_keys (named_ends_key m) (open_codes m)) found
 
 -- what is proposed by one way
-abbrev pub AreProposals : Progress → Way → List Proposal → Type 0
+abbrev pub AreProposals : ChangesSoFar → Way → List Proposal → Type 0
 AreProposals m Points found = AreByPoints m found
 AreProposals m Contents found = AreByContents m found
 AreProposals m Joined found = AreByJoints m found

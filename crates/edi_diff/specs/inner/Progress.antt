@@ -13,7 +13,7 @@ use Rattle.edi_diff.specs.inner.Codes.{code_at}
 
 -- two plans, and where the records of the first went so far, which of its arcs are reversed, and which records of the
 -- second were reached
-pub record Progress : Type 0 where
+pub record ChangesSoFar : Type 0 where
   pub plan : PlanData
   pub other : PlanData
   pub to : List (Option ℕ)
@@ -21,7 +21,7 @@ pub record Progress : Type 0 where
   pub reached : List Bool
 
 -- the same of two plans and of changes
-abbrev pub progress_by : PlanData → PlanData → Changes → Progress
+abbrev pub progress_by : PlanData → PlanData → Changes → ChangesSoFar
 progress_by plan other changes =
     record {
       plan = plan;
@@ -32,16 +32,16 @@ progress_by plan other changes =
     }
 
 -- what the code has of it
-abbrev pub progress_of : Open → Progress
+abbrev pub progress_of : Open → ChangesSoFar
 progress_of m = progress_by m.plan.now m.other.now m.changes.now
 
 -- the first plan, or the second
-abbrev pub plan_of : Progress → Bool → PlanData
+abbrev pub plan_of : ChangesSoFar → Bool → PlanData
 plan_of m of_second = if of_second then m.other else m.plan
 
 -- the name of a record, if it is known: the place in the second sheet where it went, or its own if it is of that sheet
 -- and was reached
-abbrev pub known_name : Progress → Bool → ℕ → Option ℕ
+abbrev pub known_name : ChangesSoFar → Bool → ℕ → Option ℕ
 known_name m of_second place =
     if of_second
     then (if slice_index_or m.reached place false then Some place else None) else slice_index_or m.to place None
@@ -51,7 +51,7 @@ abbrev pub arc_of_ends : PlanData → List PlanEnd → Option ℕ
 arc_of_ends p ends = find (λ place. is_arc (record_at p place).kind) (map (λ end. end.target) ends)
 
 -- whether the arc of a link is reversed in the second sheet, if its name is known: an arc of that sheet is not
-abbrev pub reversal_of : Progress → Bool → PlanData → ℕ → Option Bool
+abbrev pub reversal_of : ChangesSoFar → Bool → PlanData → ℕ → Option Bool
 reversal_of m of_second p place =
     option_and_then (λ arc. option_and_then (λ name. if of_second then Some false else slice_get m.turned arc)
     (known_name m of_second arc)) (arc_of_ends p (record_at p place).ends)
@@ -74,7 +74,7 @@ abbrev pub link_class : ℕ → Role → Option Bool → LinkClass
 link_class class role reversal = if is_plain role then OfClass class else OfKind (kind_there role reversal)
 
 -- the class of the link at a place
-abbrev pub link_class_at : Progress → Bool → ℕ → LinkClass
+abbrev pub link_class_at : ChangesSoFar → Bool → ℕ → LinkClass
 link_class_at m of_second place =
     link_class (record_at (plan_of m of_second) place).class (record_at (plan_of m of_second) place).role
     (reversal_of m of_second (plan_of m of_second) place)
@@ -86,9 +86,9 @@ places_where test place (x ∷ xs) =
     if test x then place ∷ places_where test (place + 1) xs else places_where test (place + 1) xs
 
 -- the records of the second sheet that weren't reached, by their codes
-abbrev pub open_seconds : Progress → List ℕ
+abbrev pub open_seconds : ChangesSoFar → List ℕ
 open_seconds m = map (code_at true) (places_where not 0 m.reached)
 
 -- the records that are still open: before those, the records of the first sheet that went nowhere
-abbrev pub open_codes : Progress → List ℕ
+abbrev pub open_codes : ChangesSoFar → List ℕ
 open_codes m = map (code_at false) (places_where is_none 0 m.to) ++ open_seconds m

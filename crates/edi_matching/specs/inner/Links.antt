@@ -14,7 +14,7 @@ use Rattle.edi_matching.specs.Differences.{IsReached}
 use Rattle.edi_matching.specs.Matchings.{GoesTo, IsMatched}
 use Rattle.edi_matching.specs.declared.matching.Matching.{Matching}
 use Rattle.edi_matching.specs.inner.Entries.{link_key_with}
-use Rattle.edi_matching.specs.inner.Proposals.{Proposal, IsCarriedOnto}
+use Rattle.edi_matching.specs.inner.Proposals.{ProposedMatching, IsCarriedOnto}
 
 -- the places below n to which records go are marked, and these alone
 pub record AreReached (to : List (Option ℕ)) (n : ℕ) (marks : List Bool) : Type 0 where
@@ -43,30 +43,30 @@ abbrev pub moved_key : PlanData → (ℕ → ℕ) → ℕ → PlanRecord → Lin
 moved_key p to class r = link_key_with class (ends_key p to r.ends) r
 
 -- the key that the link at the place i has where its ends go, with its class after the reversals
-abbrev pub key_there : Proposal → ℕ → LinkKey
+abbrev pub key_there : ProposedMatching → ℕ → LinkKey
 key_there m i =
     moved_key m.plan (slice_index m.targets)
     (class_after (partner_of m.classes) (turned_at m.turned) (record_at m.plan i)) (record_at m.plan i)
 
 -- the record at the place i is carried, with all its ends, onto that at the place j, which isn't marked
-pub record IsFreeFor (m : Proposal) (marks : List Bool) (i j : ℕ) : Type 0 where
+pub record IsFreeFor (m : ProposedMatching) (marks : List Bool) (i j : ℕ) : Type 0 where
   pub there : IsPlace m.other j
   pub free : slice_index_or marks j true ≡ false
   pub ends : AllByRecursion (λ e. IsMatched m.to e.target) (record_at m.plan i).ends
   pub carried : IsCarriedOnto m i j
 
 -- such a record for that at the place i, or there is none
-abbrev pub IsMissedIfAny : Proposal → List Bool → ℕ → Option ℕ → Type 0
+abbrev pub IsMissedIfAny : ProposedMatching → List Bool → ℕ → Option ℕ → Type 0
 IsMissedIfAny m marks i found = MatchOption found ((j : ℕ) → ¬ (IsFreeFor m marks i j)) (IsFreeFor m marks i)
 
 -- the same, where the record at the place i goes nowhere yet
-abbrev pub IsLeftIfAny : Proposal → List Bool → List (Option ℕ) → ℕ → Option ℕ → Type 0
+abbrev pub IsLeftIfAny : ProposedMatching → List Bool → List (Option ℕ) → ℕ → Option ℕ → Type 0
 IsLeftIfAny m marks to i found =
     MatchOption found (¬ (IsMatched to i) → (j : ℕ) → ¬ (IsFreeFor m marks i j))
     (λ j. (slice_index_or to i None ≡ None) × IsFreeFor m marks i j)
 
 -- the records go there, with the arcs that are turned
-abbrev pub matching_so : Proposal → List (Option ℕ) → Matching
+abbrev pub matching_so : ProposedMatching → List (Option ℕ) → Matching
 matching_so m to = record { to = to; turned = m.turned }
 
 -- some more records of a type go somewhere, and the same arcs are reversed

@@ -11,7 +11,7 @@ use Rattle.edi_schema.specs.Classes.{is_name}
 use Rattle.edi_plan.specs.PlanOf.{own_name, place_named}
 use Rattle.edi_record.specs.Records.{is_link}
 use Rattle.edi_plan.specs.declared.names.RecordNameRef.{RecordNameRef}
-use Rattle.edi_plan.specs.declared.names.Names.{Names}
+use Rattle.edi_plan.specs.declared.names.NameTable.{NameTable}
 
 -- a name without where it lies in memory
 abbrev pub name_lent : RecordNameRef → Name
@@ -28,7 +28,7 @@ IsPlaceAdded old name place new =
     ≡ option_or (place_in old other) (if is_name (name_lent name) (name_lent other) then Some place else None)
 
 -- each name of a record that is no link has the place of the first record of that name, and no other such name has one
-abbrev pub AreFirstPlaces : List Record → Names → Type 0
+abbrev pub AreFirstPlaces : List Record → NameTable → Type 0
 AreFirstPlaces list names =
     (name : RecordNameRef) → is_link name.kind ≡ false
     → place_in names.places.entries name ≡ place_named list (name_lent name)

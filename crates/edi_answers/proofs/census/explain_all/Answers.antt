@@ -2,7 +2,7 @@ use Rattle.std.proofs.Common.{inl, inr, subst, Bor, List, ℕ, map}
 use Rattle.edi_answers.specs.Census.{AnswersCensus}
 use Rattle.edi_answers.specs.Effects.{effects, written}
 use Rattle.edi_answers.specs.Hashes.{TellsFault}
-use Rattle.edi_answers.specs.Notes.{Notes}
+use Rattle.edi_answers.specs.Notes.{WritesNoteIfAny}
 use Rattle.edi_answers.proofs.Answering.{appends_nothing, over}
 use Rattle.edi_answers.proofs.census.explain_all.Goals as goal
 
@@ -20,7 +20,7 @@ returns-in-Ok-clause-answer g c =
         g.E.ByteOut.contents c.say.new.err,
         g.E.ByteOut.has_failed c.say.new.err,
         c.count_under.ensures.stays,
-        subst (Notes first) c.deref.ensures.value c.say.ensures.text,
+        subst (WritesNoteIfAny first) c.deref.ensures.value c.say.ensures.text,
         subst (λ (sheets : List (Bor (List ℕ))). AnswersCensus run.inputs run.why c.in-Ok.loaded.schema c.args.form out rest (map (λ (p : Bor (List ℕ)). p.now) sheets) c.count_under.result)
             c.deref-in-Ok.ensures.value c.count_under.ensures.answer,
       ),

@@ -1,7 +1,7 @@
 use Rattle.std.proofs.Common.{inl, inr, subst}
 use Rattle.edi_answers.specs.Effects.{effects, written}
 use Rattle.edi_answers.specs.Hashes.{TellsFault}
-use Rattle.edi_answers.specs.Notes.{Notes}
+use Rattle.edi_answers.specs.Notes.{WritesNoteIfAny}
 use Rattle.edi_answers.proofs.Answering.{appends_nothing}
 use Rattle.edi_answers.proofs.hashes.hash.Goals as goal
 
@@ -16,7 +16,7 @@ returns-in-Ok-clause-answer g c =
         g.E.ByteOut.contents c.say.new.err,
         g.E.ByteOut.has_failed c.say.new.err,
         c.answer_under.ensures.stays,
-        subst (Notes first) c.deref.ensures.value c.say.ensures.text,
+        subst (WritesNoteIfAny first) c.deref.ensures.value c.say.ensures.text,
         c.answer_under.ensures.answer,
       ),
     )

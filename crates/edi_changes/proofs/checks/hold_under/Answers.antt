@@ -1,6 +1,6 @@
 use Rattle.std.proofs.Common.{inl, refl, subst, arith}
 use Rattle.edi_answers.specs.Effects.{effects, written}
-use Rattle.edi_answers.specs.Notes.{Notes}
+use Rattle.edi_answers.specs.Notes.{WritesNoteIfAny}
 use Rattle.edi_answers.specs.Replies.{SaysLines}
 use Rattle.edi_answers.proofs.Answering.{appends_nothing}
 use Rattle.edi_answers.proofs.Replies.{behind}
@@ -20,6 +20,6 @@ returns-in-Ok-clause-answer g c =
       behind (SaysLines note 0) (AreLinesHeld run c.in-Ok.loaded.schema c.args.lines.now) o o (g.O.ByteOut.contents c.hold_each.new.out)
           (g.E.ByteOut.contents c.args.err.now) (g.E.ByteOut.contents c.say.new.err) (g.E.ByteOut.contents c.hold_each.new.err)
           (g.O.ByteOut.has_failed c.args.out.now) (g.O.ByteOut.has_failed c.hold_each.new.out) (g.E.ByteOut.has_failed c.say.new.err) (g.E.ByteOut.has_failed c.hold_each.new.err)
-          0 c.hold_each.result c.hold_each.result (appends_nothing o, inl (refl, subst (Notes first) c.deref.ensures.value c.say.ensures.text)) c.hold_each.ensures.answer
+          0 c.hold_each.result c.hold_each.result (appends_nothing o, inl (refl, subst (WritesNoteIfAny first) c.deref.ensures.value c.say.ensures.text)) c.hold_each.ensures.answer
           c.hold_each.ensures.out_stays c.hold_each.ensures.err_stays (omega arith),
     )

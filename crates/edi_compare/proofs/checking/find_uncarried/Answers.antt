@@ -1,5 +1,5 @@
 use Rattle.std.proofs.Common.{◌≡◌, ◌∙◌, MatchOption, IfOk, subst, arith}
-use Rattle.edi_compare.specs.inner.Checking.{Matching, AreCarried, FailsBy}
+use Rattle.edi_compare.specs.inner.Checking.{PairedPlans, AreCarried, FailsBy}
 use Rattle.edi_compare.specs.Uncarried.{HasEntries}
 use Rattle.edi_compare.proofs.Stops.{found}
 use Rattle.edi_compare.proofs.checking.find_uncarried.Goals as goal
@@ -18,5 +18,5 @@ returns-clause-none c =
     } in
     let cse : q.cse ≡ p.cse = grind (arith, c.same_texts.ensures.0 c.if-not-same_texts.false, c.cse.ensures, c.cse-2.ensures, plan, other) in
     found s p q pairing c.first_stop.result entries cse
-    (subst (λ (m : Matching). IfOk c.first_stop.result (λ why. MatchOption why (AreCarried m) (FailsBy m)))
+    (subst (λ (m : PairedPlans). IfOk c.first_stop.result (λ why. MatchOption why (AreCarried m) (FailsBy m)))
     (λ i. record { classes = s; plan = plan i; other = other i; to = c.as_slice-to.ensures i; turned = c.as_slice-turned.ensures i }) c.first_stop.ensures)

@@ -1,5 +1,5 @@
 use Rattle.edi_compare.specs.Faults.{of_first, of_pair}
-use Rattle.edi_compare.specs.inner.Runs.{SheetFault}
+use Rattle.edi_compare.specs.inner.Runs.{OneSheetFault}
 use Rattle.edi_compare.proofs.PairFaults.{sheet_fault}
 use Rattle.edi_compare.proofs.Refusals.{err_kept}
 use Rattle.edi_compare.proofs.runs.accept_or_fault.Goals as goal
@@ -7,5 +7,5 @@ use Rattle.edi_compare.proofs.runs.accept_or_fault.Goals as goal
 pub returns-in_err-accept_pieces-clause-err : goal.returns-in_err-accept_pieces-clause-err
 returns-in_err-accept_pieces-clause-err c =
     let f = c.in_err-accept_pieces.field-0.0 in
-    err_kept _ (of_pair (of_first f)) (SheetFault c.args.kinds.now c.args.scd.now c.args.dic.now c.args.vec) c.from_residual-in_err-accept_pieces.ensures.1
+    err_kept _ (of_pair (of_first f)) (OneSheetFault c.args.kinds.now c.args.scd.now c.args.dic.now c.args.vec) c.from_residual-in_err-accept_pieces.ensures.1
     (sheet_fault c.args.kinds.now c.args.scd.now c.args.dic.now c.args.vec c.in_ok-schema.schema f c.in_ok-schema.ensures.ok c.in_err-accept_pieces.ensures.refusal)

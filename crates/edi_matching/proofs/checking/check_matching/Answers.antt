@@ -1,7 +1,7 @@
 use Rattle.std.proofs.Common.{◌≡◌, ◌↔◌, ◌∙◌, ℕ, List, Option, IfOk, IsTrue, ap, arith, length, subst, sym}
 use Rattle.edi_plan.specs.Plans.{IsPlace, PlanData}
 use Rattle.edi_matching.specs.inner.Marks.{GoApart}
-use Rattle.edi_matching.specs.inner.Proposals.{HoldsAt, Proposal}
+use Rattle.edi_matching.specs.inner.Proposals.{HoldsAt, ProposedMatching}
 use Rattle.edi_matching.proofs.Checked.{all_reported}
 use Rattle.edi_matching.proofs.checking.check_matching.Goals as goal
 
@@ -17,4 +17,4 @@ returns c =
     let apart : GoApart m.to (length q.list) = subst (λ (to : List (Option ℕ)). GoApart to (length q.list)) c.as_slice-to.ensures
     (subst (GoApart c.as_slice-to.result.now) others (c.in_ok-are_apart.ensures.0 c.if-not-branch.false)) in
     all_reported c.args.schema.now p q m entered directed apart c.all_hold.result
-    (subst (λ (x : Proposal). IfOk c.all_hold.result (λ answer. IsTrue answer ↔ ((i : ℕ) → IsPlace x.plan i → HoldsAt x i))) c.of.ensures c.all_hold.ensures)
+    (subst (λ (x : ProposedMatching). IfOk c.all_hold.result (λ answer. IsTrue answer ↔ ((i : ℕ) → IsPlace x.plan i → HoldsAt x i))) c.of.ensures c.all_hold.ensures)

@@ -1,6 +1,6 @@
 use Rattle.std.proofs.Common.{List, ℕ, subst}
 use Rattle.edi_answers.specs.Effects.{inputs, written}
-use Rattle.edi_answers.specs.Notes.{Notes}
+use Rattle.edi_answers.specs.Notes.{WritesNoteIfAny}
 use Rattle.edicad.proofs.Noted.{note_left}
 use Rattle.edicad.proofs.command.answer_request.Goals as goal
 
@@ -16,6 +16,6 @@ returns-clause-answer g c =
         g.E.ByteOut.has_failed between,
         c.say.ensures.stays,
         c.reply-status.ensures.answer,
-        subst (λ (n : List ℕ). Notes (written g.E.ByteOut between c.say.new.err) n) c.deref.ensures.value c.say.ensures.text,
+        subst (λ (n : List ℕ). WritesNoteIfAny (written g.E.ByteOut between c.say.new.err) n) c.deref.ensures.value c.say.ensures.text,
       ),
     )

@@ -1,6 +1,6 @@
 use Rattle.std.proofs.Common.{◌≡◌, ◌+◌, [], ◌∷◌, ◌++◌, List, ap, arith, length, length-append, subst, sym}
 use Rattle.edi_matching.proofs.Totals.{goes_within}
-use Rattle.edi_report.specs.declared.parts.Parts.{Parts}
+use Rattle.edi_report.specs.declared.parts.DifferingParts.{DifferingParts}
 use Rattle.edi_diff.specs.declared.parting.PlanComparison.TheInside.{Inside}
 use Rattle.edi_diff.proofs.PartsReported.{ArePartsUpTo, parts_more}
 use Rattle.edi_diff.proofs.parting.PlanComparison.all_parts.Goals as goal
@@ -12,7 +12,7 @@ loop-place-preserved c =
     let x = c.in_ok-parts_at.field-0 in
     let more : c.push.new.self.items ≡ old ++ x ∷ [] = c.in_ok-push.ensures.items in (
       omega (arith, ap length more, length-append old (x ∷ []), c.loop-place.invariant.0),
-      subst (λ (ps : List Parts). ArePartsUpTo m ps (c.loop-place.place + 1)) (sym more)
+      subst (λ (ps : List DifferingParts). ArePartsUpTo m ps (c.loop-place.place + 1)) (sym more)
           (parts_more m old x c.loop-place.place c.loop-place.invariant.0 c.loop-place.invariant.1 c.in_ok-parts_at.ensures),
     )
 

@@ -5,7 +5,7 @@ use Rattle.edi_plan.specs.Plans.{IsPlace}
 use Rattle.edi_plan.proofs.PlaceLemmas.{place_there}
 use Rattle.edi_matching.specs.inner.Faces.{IsForcedIfAny}
 use Rattle.edi_matching.specs.inner.Links.{AreReached}
-use Rattle.edi_matching.specs.inner.Proposals.{Proposal}
+use Rattle.edi_matching.specs.inner.Proposals.{ProposedMatching}
 use Rattle.edi_matching.proofs.FacesAdded.{AreFacesAdded, all_faces, no_face, no_faces, one_face}
 use Rattle.edi_matching.proofs.record.Proposed.with_faces.Goals.{in-None, in-Some}
 use Rattle.edi_matching.proofs.record.Proposed.with_faces.Goals as goal
@@ -14,17 +14,17 @@ pub loop-arc-init : goal.loop-arc-init
 loop-arc-init c =
     let m = c.args.self.now in
     let reached = c.in_ok-reached.reached.items in
-    let to_is = c.in_ok-to.ensures.items ∙ ap (λ (t : Proposal). t.to) c.self.view_is in
-    let count_is = c.len.ensures ∙ ap (λ (t : Proposal). length t.other.list) c.self.view_is in
+    let to_is = c.in_ok-to.ensures.items ∙ ap (λ (t : ProposedMatching). t.to) c.self.view_is in
+    let count_is = c.len.ensures ∙ ap (λ (t : ProposedMatching). length t.other.list) c.self.view_is in
     let are = subst (λ (n : ℕ). AreReached m.to n reached) count_is
-    (subst (λ (to : List (Option ℕ)). AreReached to c.len.result reached) (ap (λ (t : Proposal). t.to) c.self.view_is) c.in_ok-reached.ensures) in
+    (subst (λ (to : List (Option ℕ)). AreReached to c.len.result reached) (ap (λ (t : ProposedMatching). t.to) c.self.view_is) c.in_ok-reached.ensures) in
     subst (λ (to : List (Option ℕ)). AreFacesAdded c.args.role m reached to reached 0) (sym to_is) (no_faces c.args.role m reached c.requires.holds are)
 
 pub face_for-requires-clause-arc : goal.face_for-requires-clause-arc
 face_for-requires-clause-arc c =
     let p = c.args.self.now.plan in
     let n = c.loop-arc.arc-index in
-    let places = c.places-arc-items.ensures ∙ ap (λ (t : Proposal). places_of Par t.plan) c.self.view_is in
+    let places = c.places-arc-items.ensures ∙ ap (λ (t : ProposedMatching). places_of Par t.plan) c.self.view_is in
     subst (λ (xs : List ℕ). IsPlace p (get_or xs n 0)) (sym places) (place_there Par p n (subst (λ (xs : List ℕ). n < length xs) places c.loop-arc-test.true))
 
 pub loop-arc-preserved : goal.loop-arc-preserved
@@ -36,7 +36,7 @@ loop-arc-preserved c =
     let before = c.in_ok-reached.reached.items in
     let to = c.loop-arc.to.items in
     let reached = c.loop-arc.reached.items in
-    let places = c.places-arc-items.ensures ∙ ap (λ (t : Proposal). places_of Par t.plan) c.self.view_is in
+    let places = c.places-arc-items.ensures ∙ ap (λ (t : ProposedMatching). places_of Par t.plan) c.self.view_is in
     let at = sym (ap (λ (xs : List ℕ). get_or xs n 0) places) in
     let found = subst (λ (xs : List (Option ℕ)). IsForcedIfAny m reached xs c.args.role arc c.in_ok-face.field-0) c.deref-in-loop-arc.ensures.value
     (subst (λ (bs : List Bool). IsForcedIfAny m bs c.deref-in-loop-arc.result.now c.args.role arc c.in_ok-face.field-0) c.deref.ensures.value c.in_ok-face.ensures) in
@@ -57,6 +57,6 @@ loop-arc-preserved c =
 pub returns-clause-faces : goal.returns-clause-faces
 returns-clause-faces c =
     let m = c.args.self.now in
-    let places = c.places-arc-items.ensures ∙ ap (λ (t : Proposal). places_of Par t.plan) c.self.view_is in
+    let places = c.places-arc-items.ensures ∙ ap (λ (t : ProposedMatching). places_of Par t.plan) c.self.view_is in
     all_faces c.args.role m c.in_ok-reached.reached.items c.loop-arc.to.items c.loop-arc.reached.items c.loop-arc.arc-index c.loop-arc.invariant
     (subst (λ (xs : List ℕ). length xs ≤ c.loop-arc.arc-index) places c.loop-arc-test.false) c.requires.whole c.requires.joined c.requires.side c.requires.targets

@@ -7,7 +7,7 @@ use Rattle.edi_plan.proofs.PlaceLemmas.{place_of_kind, place_there}
 use Rattle.edi_rank.specs.Keys.{link_key_cmp}
 use Rattle.edi_rank.specs.declared.keys.LinkKey.{LinkKey}
 use Rattle.edi_matching.specs.inner.Links.{AreReached, IsLeftIfAny}
-use Rattle.edi_matching.specs.inner.Proposals.{Proposal}
+use Rattle.edi_matching.specs.inner.Proposals.{ProposedMatching}
 use Rattle.edi_matching.proofs.LinksAdded.{AreLinksAdded, all_links, no_links, no_more, one_link}
 use Rattle.edi_matching.proofs.record.Proposed.with_links.Goals.{in-None, in-Some}
 use Rattle.edi_matching.proofs.record.Proposed.with_links.Goals as goal
@@ -16,24 +16,24 @@ pub loop-place-init : goal.loop-place-init
 loop-place-init c =
     let m = c.args.self.now in
     let reached = c.in_ok-reached.reached.items in
-    let to_is = c.in_ok-to.ensures.items ∙ ap (λ (t : Proposal). t.to) c.self.view_is in
-    let count_is = c.len.ensures ∙ ap (λ (t : Proposal). length t.other.list) c.self.view_is in
+    let to_is = c.in_ok-to.ensures.items ∙ ap (λ (t : ProposedMatching). t.to) c.self.view_is in
+    let count_is = c.len.ensures ∙ ap (λ (t : ProposedMatching). length t.other.list) c.self.view_is in
     let are = subst (λ (n : ℕ). AreReached m.to n reached) count_is
-    (subst (λ (to : List (Option ℕ)). AreReached to c.len.result reached) (ap (λ (t : Proposal). t.to) c.self.view_is) c.in_ok-reached.ensures) in
+    (subst (λ (to : List (Option ℕ)). AreReached to c.len.result reached) (ap (λ (t : ProposedMatching). t.to) c.self.view_is) c.in_ok-reached.ensures) in
     subst (λ (to : List (Option ℕ)). AreLinksAdded m reached to reached 0) (sym to_is) (no_links m reached c.requires.holds are)
 
 pub link_for-requires-clause-place : goal.link_for-requires-clause-place
 link_for-requires-clause-place c =
     let p = c.args.self.now.plan in
     let n = c.loop-place.place-index in
-    let places = c.places-place-items.ensures ∙ ap (λ (t : Proposal). places_of Lnk t.plan) c.self.view_is in
+    let places = c.places-place-items.ensures ∙ ap (λ (t : ProposedMatching). places_of Lnk t.plan) c.self.view_is in
     subst (λ (xs : List ℕ). IsPlace p (get_or xs n 0)) (sym places) (place_there Lnk p n (subst (λ (xs : List ℕ). n < length xs) places c.loop-place-test.true))
 
 pub link_for-requires-clause-link : goal.link_for-requires-clause-link
 link_for-requires-clause-link c =
     let p = c.args.self.now.plan in
     let n = c.loop-place.place-index in
-    let places = c.places-place-items.ensures ∙ ap (λ (t : Proposal). places_of Lnk t.plan) c.self.view_is in
+    let places = c.places-place-items.ensures ∙ ap (λ (t : ProposedMatching). places_of Lnk t.plan) c.self.view_is in
     subst (λ (xs : List ℕ). (record_at p (get_or xs n 0)).kind ≡ Lnk) (sym places) (place_of_kind Lnk p n (subst (λ (xs : List ℕ). n < length xs) places c.loop-place-test.true))
 
 pub link_for-requires-clause-sorted : goal.link_for-requires-clause-sorted
@@ -44,7 +44,7 @@ pub index_mut-requires : goal.index_mut-requires
 index_mut-requires c =
     let p = c.args.self.now.plan in
     let n = c.loop-place.place-index in
-    let places = c.places-place-items.ensures ∙ ap (λ (t : Proposal). places_of Lnk t.plan) c.self.view_is in
+    let places = c.places-place-items.ensures ∙ ap (λ (t : ProposedMatching). places_of Lnk t.plan) c.self.view_is in
     let there = subst (λ (xs : List ℕ). IsPlace p (get_or xs n 0)) (sym places) (place_there Lnk p n (subst (λ (xs : List ℕ). n < length xs) places c.loop-place-test.true)) in
     omega (arith, there, c.loop-place.invariant.added.adds.long, c.requires.holds.all_entered)
 
@@ -57,7 +57,7 @@ loop-place-preserved c =
     let before = c.in_ok-reached.reached.items in
     let to = c.loop-place.to.items in
     let reached = c.loop-place.reached.items in
-    let places = c.places-place-items.ensures ∙ ap (λ (t : Proposal). places_of Lnk t.plan) c.self.view_is in
+    let places = c.places-place-items.ensures ∙ ap (λ (t : ProposedMatching). places_of Lnk t.plan) c.self.view_is in
     let at = sym (ap (λ (xs : List ℕ). get_or xs n 0) places) in
     let within = subst (λ (xs : List ℕ). n < length xs) places c.loop-place-test.true in
     let here = subst (λ (xs : List ℕ). IsPlace p (get_or xs n 0)) (sym places) (place_there Lnk p n within) in
@@ -80,6 +80,6 @@ loop-place-preserved c =
 pub returns-clause-links : goal.returns-clause-links
 returns-clause-links c =
     let m = c.args.self.now in
-    let places = c.places-place-items.ensures ∙ ap (λ (t : Proposal). places_of Lnk t.plan) c.self.view_is in
+    let places = c.places-place-items.ensures ∙ ap (λ (t : ProposedMatching). places_of Lnk t.plan) c.self.view_is in
     all_links m c.in_ok-reached.reached.items c.loop-place.to.items c.loop-place.reached.items c.loop-place.place-index c.loop-place.invariant
     (subst (λ (xs : List ℕ). length xs ≤ c.loop-place.place-index) places c.loop-place-test.false) c.requires.whole c.requires.targets

@@ -1,7 +1,7 @@
 use Rattle.std.proofs.Common.{◌≡◌, ◌∙◌, ◌++◌, ℕ, List, ap, ap₂, length, rules}
 use Rattle.std.specs.List.{flat_map, range_with_len}
 use Rattle.std.proofs.Math.Path.{fun_ext}
-use Rattle.edi_objects.specs.Accounts.{Told}
+use Rattle.edi_objects.specs.Accounts.{NamedReport}
 use Rattle.edi_objects.specs.Names.{Naming}
 use Rattle.edi_objects.specs.Counts.{class_count, class_counts_line, class_total, gone_classes, new_classes}
 use Rattle.edi_objects.specs.inner.Counts.{told_total}
@@ -15,7 +15,7 @@ loop-place-preserved c =
     let of = c.args.told.now in
     let class = c.class_at-class.result in
     let counts = c.counts.result in
-    let named = ap (λ (m : Naming). class_counts_line m class counts.gone counts.new counts.changed) (ap (λ (x : Told). x.naming) c.self.view_is) in
+    let named = ap (λ (m : Naming). class_counts_line m class counts.gone counts.new counts.changed) (ap (λ (x : NamedReport). x.naming) c.self.view_is) in
     let two = ap₂ (λ (g w : ℕ). class_counts_line n class g w counts.changed) c.counts.ensures.gone c.counts.ensures.new in
     let all = ap (λ (d : ℕ). class_counts_line n class (class_count class of.gone) (class_count class of.new) d) c.counts.ensures.changed in
     let more : c.push_class_line.new.text.items ≡ c.loop-place.text.items ++ line c.loop-place.place =

@@ -1,6 +1,6 @@
 use Rattle.std.proofs.Common.{◌∙◌, ◌++◌, List, codes, ℕ, ap, ap₂}
 use Rattle.edi_report.specs.Lines.{charsets_line, totals_line}
-use Rattle.edi_objects.specs.Accounts.{Told, bare_links, objects_of, shapes_of}
+use Rattle.edi_objects.specs.Accounts.{NamedReport, bare_links, objects_of, shapes_of}
 use Rattle.edi_objects.specs.Counts.{changed_classes, class_totals}
 use Rattle.edi_objects.proofs.account.ObjectReporter.text.Goals as goal
 
@@ -11,8 +11,8 @@ returns c =
     let shapes = shapes_of t.naming t.report in
     let links = bare_links t.naming t.report in
     let totals = class_totals t.naming t.report in
-    let first = ap (λ (x : Told). charsets_line x.report) c.self.view_is in
-    let last = ap (λ (x : Told). totals_line x.report) c.self.view_is in
+    let first = ap (λ (x : NamedReport). charsets_line x.report) c.self.view_is in
+    let last = ap (λ (x : NamedReport). totals_line x.report) c.self.view_is in
     let one = c.in_ok-push_charsets.ensures ∙ ap₂ (λ (xs ys : List ℕ). xs ++ ys) c.new-text.ensures.items first in
     let two = c.in_ok-push_objects.ensures.text ∙ ap (λ (xs : List ℕ). xs ++ objects) one in
     let three = c.in_ok-push_shapes.ensures ∙ ap (λ (xs : List ℕ). xs ++ shapes) two in

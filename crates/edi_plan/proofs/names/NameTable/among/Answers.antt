@@ -5,8 +5,8 @@ use Rattle.edi_record.proofs.StatedAt.{stated_there}
 use Rattle.edi_record.proofs.KindCodes.{kind_from_code}
 use Rattle.edi_plan.specs.inner.Names.{place_in, is_tabled}
 use Rattle.edi_plan.proofs.NameLemmas.{first_own, first_put, was_there, was_new, repeat_more, repeat_none, repeat_all, names_of, left_out, no_link, repeat_apart, first_apart}
-use Rattle.edi_plan.proofs.names.Names.among.Goals as goal
-use Rattle.edi_plan.proofs.names.Names.among.Goals.{then-first-place, else-first-place}
+use Rattle.edi_plan.proofs.names.NameTable.among.Goals as goal
+use Rattle.edi_plan.proofs.names.NameTable.among.Goals.{then-first-place, else-first-place}
 
 pub loop-place-preserved-then-not-is_tabled : goal.loop-place-preserved-then-not-is_tabled
 loop-place-preserved-then-not-is_tabled c =
