@@ -3,8 +3,8 @@
 
     checks/names.py [--check]  fails with a list if there are any
 
-A definition's name stands in one file of the crates' specs/ only, and the name of a struct, an enum or a
-trait in the sources of one crate only. Fields and constructors may share theirs.
+A definition's name stands in one file of the crates' specs/ only, the name of a struct, an enum or a trait in
+the sources of one crate only, and no name is both. Fields and constructors may share theirs.
 """
 import glob
 import os
@@ -68,9 +68,17 @@ def twice(found, what):
     return [f"{what} {name}: {', '.join(sorted(places))}" for name, places in sorted(found.items()) if len(places) > 1]
 
 
+def both(by_name, by_type):
+    """The names that are a definition's and a type's."""
+    return [
+        f"definition and type {name}: {', '.join(sorted(by_name[name] | by_type[name]))}"
+        for name in sorted(by_name.keys() & by_type.keys())
+    ]
+
+
 def main():
     by_name, by_type = definitions(), types()
-    faults = twice(by_name, "definition") + twice(by_type, "type")
+    faults = twice(by_name, "definition") + twice(by_type, "type") + both(by_name, by_type)
     print("\n".join(faults) or f"{len(by_name)} definitions and {len(by_type)} types have each a name of their own")
     sys.exit(bool(faults))
 
