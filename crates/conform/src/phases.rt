@@ -68,14 +68,14 @@ fn push_labelled(
 ) -> Result<(), AllocError>
     requires { Agrees schema.now sound.now }
 {
-    match labels_of(alloc, schema, sound) {
+    match labels_or_fault(alloc, schema, sound) {
         Ok(labels) => push_written(alloc, schema, sound, &labels, text),
         Err(RankFault::Memory(fault)) => Err(fault),
         Err(RankFault::Broken { rule, at }) => push_record(text, "", rule, at),
     }
 }
 
-fn labels_of(alloc: Global, schema: &Schema, sound: &Sound) -> Result<Labels, RankFault>
+fn labels_or_fault(alloc: Global, schema: &Schema, sound: &Sound) -> Result<Labels, RankFault>
     requires { Agrees schema.now sound.now }
     ensures { IfOk result (AreLabels schema.now sound.now) }
 {

@@ -169,14 +169,14 @@ fn answer_under<F: Folder, O: ByteOut, E: ByteOut>(
 {
     let sheets = &files.sheets;
     if with_schema {
-        answer_headed(alloc, folder, schema, siblings, form, files, out, err)
+        answer_schema_and_sheets(alloc, folder, schema, siblings, form, files, out, err)
     } else {
         answer_all(alloc, folder, schema, siblings, form, sheets, out, err)
     }
 }
 
 // Writes the line of the schema, and answers each sheet.
-fn answer_headed<F: Folder, O: ByteOut, E: ByteOut>(
+fn answer_schema_and_sheets<F: Folder, O: ByteOut, E: ByteOut>(
     alloc: Global,
     folder: &F,
     schema: &Schema,

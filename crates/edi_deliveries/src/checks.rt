@@ -76,13 +76,13 @@ fn check_against<F: Folder + Listing, O: ByteOut, E: ByteOut + Progress>(
         (written E.ByteOut err.old err.new) result }
 {
     match open_delivery(alloc, folder, path, err) {
-        Ok(opened) => check_opened(alloc, folder, kinds, known, &opened, out, err),
+        Ok(opened) => check_open_delivery(alloc, folder, kinds, known, &opened, out, err),
         Err(status) => status,
     }
 }
 
 // Holds a delivery that was opened against these lines.
-fn check_opened<F: Folder, O: ByteOut, E: ByteOut + Progress>(
+fn check_open_delivery<F: Folder, O: ByteOut, E: ByteOut + Progress>(
     alloc: Global,
     folder: &F,
     kinds: &GivenKinds<'_>,

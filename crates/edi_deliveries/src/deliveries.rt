@@ -61,13 +61,13 @@ fn answer_path<F: Folder + Listing, O: ByteOut, E: ByteOut + Progress>(
     ensures err_stays { IsTrue (E.has_failed err.old) → IsTrue (E.has_failed err.new) }
 {
     match open_delivery(alloc, folder, path, err) {
-        Ok(opened) => answer_opened(alloc, folder, kinds, &opened, out, err),
+        Ok(opened) => answer_open_delivery(alloc, folder, kinds, &opened, out, err),
         Err(status) => status,
     }
 }
 
 // Answers the lots of a delivery that was opened, or says that there is no memory for the table of their names.
-fn answer_opened<F: Folder, O: ByteOut, E: ByteOut + Progress>(
+fn answer_open_delivery<F: Folder, O: ByteOut, E: ByteOut + Progress>(
     alloc: Global,
     folder: &F,
     kinds: &GivenKinds<'_>,

@@ -17,7 +17,7 @@ use crate::proposing::Open;
 use edi_matching::Matching;
 use edi_plan::Plan;
 use edi_record::Kind;
-use edi_report::marks_of;
+use edi_report::reached_marks;
 use std::alloc::{AllocError, Global};
 
 /// A record of the first sheet, and one of the second that it may have become.
@@ -88,7 +88,7 @@ fn changes_of_matching(
 {
     let to = Vec::from_slice(alloc, unchanged.to.as_slice())?;
     let turned = Vec::from_slice(alloc, unchanged.turned.as_slice())?;
-    let reached = marks_of(alloc, unchanged.to.as_slice(), other.len())?;
+    let reached = reached_marks(alloc, unchanged.to.as_slice(), other.len())?;
     Ok(Changes {
         to,
         turned,
@@ -126,7 +126,7 @@ impl Changes {
         match way {
             Way::Points => open.by_points(alloc),
             Way::Contents => open.by_contents(alloc),
-            Way::Joined => open.by_joined(alloc),
+            Way::Joined => open.by_joints(alloc),
             Way::Ends => open.by_ends(alloc),
         }
     }

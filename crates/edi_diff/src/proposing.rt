@@ -67,7 +67,7 @@ impl<'a> Open<'a> {
     }
 
     /// Records that links join with the same.
-    pub(crate) fn by_joined(&self, alloc: Global) -> Result<Vec<Proposal>, AllocError>
+    pub(crate) fn by_joints(&self, alloc: Global) -> Result<Vec<Proposal>, AllocError>
         ensures { IfOk result (λ found. AreByJoints (progress_of self.now) found.items) }
     {
         let joined = self.joints(alloc)?;

@@ -5,7 +5,7 @@ ghost use Rattle.edi_matching.specs.Matchings.{IsMatched, IsTotal};
 
 use edi_compare::contents::same_texts;
 use edi_matching::Matching;
-use edi_report::{LocatedSheet, marks_of};
+use edi_report::{LocatedSheet, reached_marks};
 use std::alloc::{AllocError, Global};
 
 /// Whether a matching leaves nothing out of two sheets with one character set.
@@ -38,7 +38,7 @@ fn is_total(
 {
     let to = matching.to.as_slice();
     if all_went(to) {
-        let marks = marks_of(alloc, to, second.accepted.sound().plan().len())?;
+        let marks = reached_marks(alloc, to, second.accepted.sound().plan().len())?;
         Ok(all_marked(&marks))
     } else {
         Ok(false)

@@ -188,7 +188,7 @@ fn label_of<'a>(schema: &Schema, plan: &'a Plan, callers: &[Option<u32>], place:
 }
 
 /// What the records of a sheet are called, in file order.
-pub(crate) fn labels_of(
+pub(crate) fn record_labels(
     alloc: Global,
     schema: &Schema,
     plan: &Plan,

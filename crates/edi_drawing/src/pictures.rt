@@ -6,7 +6,7 @@ ghost use Rattle.edi_picture.specs.Pictures.{IsPicture};
 ghost use Rattle.edi_drawing.specs.Drawn.{both_sheets, first_sheet, plain_sheet, second_sheet};
 
 use crate::identifiers::identifiers_of;
-use crate::labels::{first_labels, labels_of};
+use crate::labels::{first_labels, record_labels};
 use crate::marks::{first_marks, one_for_each, second_marks};
 use crate::names::FileNames;
 use crate::pair::SheetPair;
@@ -33,7 +33,7 @@ pub(crate) fn picture_of(
     let looks = Looks {
         marks: one_for_each(alloc, Mark::Plain, plan.len())?,
         tints: Vec::new(alloc),
-        labels: labels_of(alloc, schema, plan)?,
+        labels: record_labels(alloc, schema, plan)?,
     };
     picture(
         alloc,
@@ -81,7 +81,7 @@ fn second_shown<'a>(
     let looks = Looks {
         marks: second_marks(alloc, pair.unchanged, pair.became, other.len())?,
         tints: one_for_each(alloc, true, other.len())?,
-        labels: labels_of(alloc, schema, other)?,
+        labels: record_labels(alloc, schema, other)?,
     };
     Ok(Shown::new(other, name.as_bytes(), identifiers, looks))
 }

@@ -7,7 +7,7 @@ use Rattle.edi_pairing.specs.Names.{AreNames, name_at}
 use Rattle.edi_pairing.specs.PairingText.{head, line_at, line_of, first_lines, Pairs, StatesPairing, Begins}
 use Rattle.edi_pairing.specs.WrongLines.{IsFirstReason, IsWrongBy}
 use Rattle.edi_pairing.specs.declared.fault.WrongLine.{WrongLine}
-use Rattle.edi_pairing.specs.Laws.{TextsAreUnique}
+use Rattle.edi_pairing.specs.Laws.{PairingTextsAreUnique}
 use Rattle.edi_pairing.specs.inner.Reading.{BeginsWith}
 use Rattle.edi_pairing.specs.declared.names.RecordName.{RecordName}
 use Rattle.edi_compare.specs.declared.pairing.Pairing.{Pairing}
@@ -214,7 +214,7 @@ module _ (a b : List RecordName) where
   }
 
 -- a text states one pairing
-pub texts_unique : TextsAreUnique
+pub texts_unique : PairingTextsAreUnique
 texts_unique = record {
   stated = λ a b p h. record { is_pairing = h; is_text = refl };
   alone = λ a b p q names h s.

@@ -17,7 +17,7 @@ pub mod writing;
 mod wrong;
 
 pub use fault::{PairingFault, VerifyFault, VerifyRunFault, WrongLine};
-pub use laws::{texts_are_unique, wrong_lines_have_one_reason};
+pub use laws::{pairing_texts_are_unique, wrong_lines_have_one_reason};
 pub use names::{RecordName, RecordNames};
 pub use reading::read_pairing;
 pub use sheets::{NamedSheet, name_both, name_sheet};

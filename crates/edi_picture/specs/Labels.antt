@@ -63,5 +63,5 @@ label_text f top sheet k =
     if has_label sheet k then label_amid f top (points_round sheet.plan k) (label_at sheet k) else []
 
 -- and on all faces of a sheet, in file order
-abbrev pub labels_of : Extent → ℕ → DrawnSheet → List ℕ
-labels_of f top sheet = flat_map (label_text f top sheet) (places_of Pfe sheet.plan)
+abbrev pub sheet_labels : Extent → ℕ → DrawnSheet → List ℕ
+sheet_labels f top sheet = flat_map (label_text f top sheet) (places_of Pfe sheet.plan)

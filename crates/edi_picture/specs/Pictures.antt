@@ -7,7 +7,7 @@ use Rattle.edi_plan.specs.declared.extent.Extent.{Extent}
 use Rattle.edi_picture.specs.Elements.{drawn_records}
 use Rattle.edi_picture.specs.Faces.{faces_of}
 use Rattle.edi_picture.specs.Frames.{IsBar, IsFrame, pixels, plan_height, side_length}
-use Rattle.edi_picture.specs.Labels.{labels_of}
+use Rattle.edi_picture.specs.Labels.{sheet_labels}
 use Rattle.edi_picture.specs.Legends.{bar_text, far_text, head_text, inset_text, legend_height, legend_text, tail_text}
 use Rattle.edi_picture.specs.Marks.{colour, filling, stroke_width}
 use Rattle.edi_picture.specs.Sheets.{DrawnSheet}
@@ -68,7 +68,7 @@ plan_text s f sheets top = inset_text f top ++ layers s f sheets ++ tail_text
 -- what is written on the faces of all sheets
 abbrev pub labels_text : Extent → List DrawnSheet → ℕ → List ℕ
 labels_text f sheets top =
-    codes "<g text-anchor='middle' font-size='12'>\n" ++ flat_map (labels_of f top) sheets ++ group_end
+    codes "<g text-anchor='middle' font-size='12'>\n" ++ flat_map (sheet_labels f top) sheets ++ group_end
 
 -- ---- the whole
 

@@ -5,7 +5,7 @@ ghost use Rattle.std.specs.List.{All, flat_map};
 ghost use Rattle.edi_plan.specs.Plans.{IsPlace, record_at};
 ghost use Rattle.edi_picture.specs.inner.Rounds.{AreRounds};
 ghost use Rattle.edi_picture.specs.Faces.{arcs_round};
-ghost use Rattle.edi_picture.specs.Labels.{has_label, label_amid, label_place, label_text, labels_of, middle, middle_across, middle_down, midway, page_across, page_down};
+ghost use Rattle.edi_picture.specs.Labels.{has_label, label_amid, label_place, label_text, sheet_labels, middle, middle_across, middle_down, midway, page_across, page_down};
 
 use crate::frame::{distance_between, pixel};
 use crate::mark::Mark;
@@ -173,7 +173,7 @@ fn push_each_label(
 ) -> Result<(), AllocError>
     requires top { top ≤ 1000 }
     requires rounds { AreRounds sheet.now.plan rounds.now }
-    ensures { OnOk result (text.new.items ≡ text.old.items ++ labels_of frame.now top sheet.now) }
+    ensures { OnOk result (text.new.items ≡ text.old.items ++ sheet_labels frame.now top sheet.now) }
 {
     for place in sheet.plan().places(Kind::Pfe) {
         push_label(
@@ -198,7 +198,7 @@ pub(crate) fn push_labels(
     sheet: &Shown<'_>,
 ) -> Result<(), AllocError>
     requires { top ≤ 1000 }
-    ensures { OnOk result (text.new.items ≡ text.old.items ++ labels_of frame.now top sheet.now) }
+    ensures { OnOk result (text.new.items ≡ text.old.items ++ sheet_labels frame.now top sheet.now) }
 {
     let rounds = rounds_of(alloc, sheet.plan())?;
     push_each_label(alloc, text, frame, top, sheet, &rounds)

@@ -4,7 +4,7 @@ ghost use Rattle.std.specs.Prelude.{◌≡◌, ◌≤◌, ◌++◌, OnOk};
 ghost use Rattle.std.specs.List.{flat_map};
 ghost use Rattle.edi_picture.specs.Elements.{drawn_records};
 ghost use Rattle.edi_picture.specs.Faces.{faces_of};
-ghost use Rattle.edi_picture.specs.Labels.{labels_of};
+ghost use Rattle.edi_picture.specs.Labels.{sheet_labels};
 ghost use Rattle.edi_picture.specs.Pictures.{arcs_begin, arcs_text, dashes, faces_text, labels_text, layers, nodes_begin, nodes_text, plan_text, rim_text};
 ghost use Rattle.edi_picture.specs.Sheets.{AllHaveClasses};
 ghost use Rattle.edi_picture.specs.declared.mark.Ink.TheVariants.{Old};
@@ -203,7 +203,7 @@ fn push_each_label(
     sheets: &[Shown<'_>],
 ) -> Result<(), AllocError>
     requires { top ≤ 1000 }
-    ensures { OnOk result (text.new.items ≡ text.old.items ++ flat_map (labels_of frame.now top) sheets.now) }
+    ensures { OnOk result (text.new.items ≡ text.old.items ++ flat_map (sheet_labels frame.now top) sheets.now) }
 {
     for sheet in sheets {
         push_labels(alloc, text, frame, top, sheet)?;

@@ -12,7 +12,7 @@ pub mod sheet;
 pub mod site;
 pub mod values;
 
-pub use marks::marks_of;
+pub use marks::reached_marks;
 pub use parts::{DifferingParts, NO_PARTS, parts_at};
 pub use report::Reporter;
 pub use sheet::{LocatedSheet, locate_both, locate_from};

@@ -7,7 +7,11 @@ ghost use Rattle.edi_report.specs.Tables.{AreMarks};
 use std::alloc::{AllocError, Global};
 
 /// Of the first so many places, whether a record went there.
-pub fn marks_of(alloc: Global, became: &[Option<u32>], count: u32) -> Result<Vec<bool>, AllocError>
+pub fn reached_marks(
+    alloc: Global,
+    became: &[Option<u32>],
+    count: u32,
+) -> Result<Vec<bool>, AllocError>
     ensures { IfOk result (λ marks. AreMarks became.now count marks.items) }
 {
     let mut marks = vec![in alloc; false; count as usize]?;

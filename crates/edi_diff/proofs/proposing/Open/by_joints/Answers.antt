@@ -6,7 +6,7 @@ use Rattle.edi_diff.specs.inner.LonePairs.{AreByJoints, AreLonePairs, with_keys}
 use Rattle.edi_diff.specs.inner.Progress.{open_codes, progress_of}
 use Rattle.edi_diff.proofs.Alone.{keyed_more, proposed_by}
 use Rattle.edi_diff.proofs.JoinedNames.{Joint}
-use Rattle.edi_diff.proofs.proposing.Open.by_joined.Goals as goal
+use Rattle.edi_diff.proofs.proposing.Open.by_joints.Goals as goal
 
 pub loop-code-preserved : goal.loop-code-preserved
 loop-code-preserved c =

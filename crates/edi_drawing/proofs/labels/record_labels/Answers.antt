@@ -3,7 +3,7 @@ use Rattle.std.proofs.lemmas.List.{map-append}
 use Rattle.std.specs.Global.{Vec}
 use Rattle.edi_drawing.specs.Labels.{label_of}
 use Rattle.edi_report.proofs.EachPlace.{one_value_more}
-use Rattle.edi_drawing.proofs.labels.labels_of.Goals as goal
+use Rattle.edi_drawing.proofs.labels.record_labels.Goals as goal
 
 pub loop-place-preserved : goal.loop-place-preserved
 loop-place-preserved c =

@@ -7,7 +7,7 @@ use Rattle.edi_changes.proofs.Checking.{of_greater}
 use Rattle.edi_deliveries.specs.Checks.{AreHeld}
 use Rattle.edi_deliveries.specs.inner.Opening.{opened_of}
 use Rattle.edi_deliveries.proofs.MadeManifests.{lines_of_it}
-use Rattle.edi_deliveries.proofs.checks.check_opened.Goals as goal
+use Rattle.edi_deliveries.proofs.checks.check_open_delivery.Goals as goal
 
 pub returns-in_default-clause-answer : goal.returns-in_default-clause-answer
 returns-in_default-clause-answer g c =

@@ -6,7 +6,7 @@ use Rattle.edi_answers.specs.Hashes.{AnswersAll, schema_line_in}
 use Rattle.edi_answers.specs.Statuses.{PrintsFirst}
 use Rattle.edi_answers.specs.inner.Hashes.{IsSchemaText}
 use Rattle.edi_answers.proofs.Answering.{over, paths_of}
-use Rattle.edi_answers.proofs.hashes.answer_headed.Goals as goal
+use Rattle.edi_answers.proofs.hashes.answer_schema_and_sheets.Goals as goal
 
 pub returns-in-Ok-put_all-clause-answer : goal.returns-in-Ok-put_all-clause-answer
 returns-in-Ok-put_all-clause-answer g c =

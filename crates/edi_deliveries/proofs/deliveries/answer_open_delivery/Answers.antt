@@ -3,7 +3,7 @@ use Rattle.edi_delivery.specs.declared.lot.Lot.{Lot}
 use Rattle.edi_answers.specs.Effects.{effects, written}
 use Rattle.edi_deliveries.specs.Deliveries.{AreLotsAnswered}
 use Rattle.edi_deliveries.specs.inner.Opening.{opened_of}
-use Rattle.edi_deliveries.proofs.deliveries.answer_opened.Goals as goal
+use Rattle.edi_deliveries.proofs.deliveries.answer_open_delivery.Goals as goal
 
 pub returns-clause-answer : goal.returns-clause-answer
 returns-clause-answer g c =

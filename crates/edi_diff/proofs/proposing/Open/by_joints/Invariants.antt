@@ -2,7 +2,7 @@ use Rattle.std.proofs.Common.{◌≡◌, take}
 use Rattle.edi_diff.specs.inner.Keys.{joined_key}
 use Rattle.edi_diff.specs.inner.LonePairs.{with_keys}
 use Rattle.edi_diff.specs.inner.Progress.{progress_of}
-use Rattle.edi_diff.proofs.proposing.Open.by_joined.Given as goal
+use Rattle.edi_diff.proofs.proposing.Open.by_joints.Given as goal
 
 abbrev pub invariant-loop-code : goal.invariant-loop-code
 invariant-loop-code l =
