@@ -10,7 +10,7 @@ use Rattle.edi_record.specs.declared.record.Value.{Value}
 use Rattle.edi_record.specs.declared.record.Value.TheVariants.{Number, Bytes}
 use Rattle.edi_plan.specs.Orders.{attribute_cmp}
 use Rattle.edi_plan.specs.declared.record.PlanAttribute.{PlanAttribute}
-use Rattle.edi_plan.specs.inner.AttributeFronts.{front_from, front_of_value, front_with, front_of, HasBytes}
+use Rattle.edi_plan.specs.inner.AttributeFronts.{front_from, front_of_value, front_with, attribute_front, HasBytes}
 use Rattle.edi_plan.proofs.Orders.{attribute_total}
 
 differs : (o : Ordering) → is_ne o ≡ true → o ≡ Equal → ⊥
@@ -110,14 +110,14 @@ set_rises None (Some y) v w bytes bytes' h = refl
 set_rises (Some x) None v w bytes bytes' h = absurd (omega (arith, h, value_below w bytes'))
 set_rises (Some x) (Some y) v w bytes bytes' h = absurd (omega (arith, h))
 
-attribute_rises : (a b : PlanAttribute) → HasBytes a → HasBytes b → nat_cmp a.atp b.atp ≡ Equal → front_of a < front_of b → attribute_cmp a b ≡ Less
+attribute_rises : (a b : PlanAttribute) → HasBytes a → HasBytes b → nat_cmp a.atp b.atp ≡ Equal → attribute_front a < attribute_front b → attribute_cmp a b ≡ Less
 attribute_rises a b bytes bytes' tie h =
     ap (λ o. ordering_then o (ordering_then (text_cmp a.tex b.tex) (value_cmp a.value b.value))) tie ∙ set_rises a.tex b.tex a.value b.value bytes bytes' h
 
 -- where the fronts differ they decide
 pub decided : (a b : PlanAttribute) (order front : Ordering) → HasBytes a → HasBytes b
-    → order ≡ nat_cmp a.atp b.atp → is_ne order ≡ false → front ≡ nat_cmp (front_of a) (front_of b) → is_ne front ≡ true → front ≡ attribute_cmp a b
-decided a b order front bytes bytes' classes same fronts differ = by_ranked (front_of a < front_of b) (front_of a ≡ front_of b) (front_of b < front_of a) front (ranked (front_of a) (front_of b) front fronts)
+    → order ≡ nat_cmp a.atp b.atp → is_ne order ≡ false → front ≡ nat_cmp (attribute_front a) (attribute_front b) → is_ne front ≡ true → front ≡ attribute_cmp a b
+decided a b order front bytes bytes' classes same fronts differ = by_ranked (attribute_front a < attribute_front b) (attribute_front a ≡ attribute_front b) (attribute_front b < attribute_front a) front (ranked (attribute_front a) (attribute_front b) front fronts)
     (λ e less. e ∙ sym (attribute_rises a b bytes bytes' tie less))
     (λ e equal. absurd (differs front differ e))
     (λ e more. e ∙ sym (attribute_total.antisymm a b ∙ ap ordering_reverse (attribute_rises b a bytes' bytes (nat_cmp_total.antisymm b.atp a.atp ∙ ap ordering_reverse tie) more)))

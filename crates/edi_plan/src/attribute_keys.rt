@@ -6,7 +6,7 @@ ghost use Rattle.std.specs.Cmp.{eq_by_cmp_equiv, partial_equiv_from_equiv, parti
 ghost use Rattle.edi_line.specs.Bytes.{IsBytes};
 ghost use Rattle.edi_plan.specs.contracts.record.PlanAttributeOrd.TheImpl.{ghosts as attributes};
 ghost use Rattle.edi_plan.specs.contracts.record.PlanAttributeOrd.TheImpl.Laws.{total-law};
-ghost use Rattle.edi_plan.specs.inner.AttributeFronts.{front_from, front_of, HasBytes};
+ghost use Rattle.edi_plan.specs.inner.AttributeFronts.{front_from, attribute_front, HasBytes};
 
 use crate::record::PlanAttribute;
 use edi_record::Value;
@@ -39,7 +39,7 @@ fn front_of_text(text: &[u8]) -> u64
 /// A number by which attributes of one class are told apart before their values are looked at: the one that comes first
 /// in their order has no greater one. Those with a character set, which are few, share the greatest.
 fn front_of_attribute(attribute: &PlanAttribute) -> u64
-    ensures front { result ≡ front_of attribute.now }
+    ensures front { result ≡ attribute_front attribute.now }
     ensures bytes { HasBytes attribute.now }
 {
     if attribute.tex.is_some() {
@@ -63,13 +63,13 @@ pub(crate) struct AttributeKey<'a> {
 impl<'a> Model for AttributeKey<'a> {
     ghost use Rattle.std.specs.Prelude.{◌≡◌};
     ghost use Rattle.edi_plan.specs.declared.record.PlanAttribute.{PlanAttribute};
-    ghost use Rattle.edi_plan.specs.inner.AttributeFronts.{front_of, HasBytes};
+    ghost use Rattle.edi_plan.specs.inner.AttributeFronts.{attribute_front, HasBytes};
 
     ghost Value = { PlanAttribute };
 
     ghost view = { λ k. k.attribute.now };
 
-    ghost invariant = { λ k. (k.class ≡ k.attribute.now.atp) × (k.front ≡ front_of k.attribute.now)
+    ghost invariant = { λ k. (k.class ≡ k.attribute.now.atp) × (k.front ≡ attribute_front k.attribute.now)
         × HasBytes k.attribute.now };
 }
 

@@ -9,7 +9,7 @@ ghost use Rattle.edi_plan.specs.Plans.{IsPlace, record_at};
 ghost use Rattle.edi_rank.specs.Arranged.{arranged_record, old_places};
 ghost use Rattle.edi_rank.specs.EndOrder.{OthersInOrder};
 ghost use Rattle.edi_rank.specs.Labelling.{AreLabels, number_of, order_of};
-ghost use Rattle.edi_write.specs.inner.SharedFronts.{written};
+ghost use Rattle.edi_write.specs.inner.SharedFronts.{all_written};
 ghost use Rattle.edi_write.specs.inner.ClassLines.{IsLineOfItsClass};
 ghost use Rattle.edi_write.specs.inner.Heads.{headed};
 ghost use Rattle.edi_write.specs.Layout.{attribute_zones, head_zones};
@@ -259,7 +259,7 @@ impl<'a> LabelledPlan<'a> {
         requires within { file.old.front ≤ length file.old.other.now }
         ensures other { OnOk result (file.new.other.now ≡ file.old.other.now) }
         ensures within { OnOk result (file.new.front ≤ length file.new.other.now) }
-        ensures written { OnOk result (written file.new ≡ written file.old
+        ensures written { OnOk result (all_written file.new ≡ all_written file.old
             ++ printed (flat_map (numbered_zones self.now.classes self.now.labels self.now.plan) places.now)) }
     {
         let mut line = ClassLine::new(alloc);
@@ -285,7 +285,7 @@ impl<'a> LabelledPlan<'a> {
         requires within { file.old.front ≤ length file.old.other.now }
         ensures other { OnOk result (file.new.other.now ≡ file.old.other.now) }
         ensures within { OnOk result (file.new.front ≤ length file.new.other.now) }
-        ensures written { OnOk result (written file.new ≡ written file.old
+        ensures written { OnOk result (all_written file.new ≡ all_written file.old
             ++ printed (flat_map (numbered_zones self.now.classes self.now.labels self.now.plan)
             (order_of self.now.labels kind))) }
     {
@@ -301,7 +301,7 @@ impl<'a> LabelledPlan<'a> {
         requires within { file.old.front ≤ length file.old.other.now }
         ensures other { OnOk result (file.new.other.now ≡ file.old.other.now) }
         ensures within { OnOk result (file.new.front ≤ length file.new.other.now) }
-        ensures written { OnOk result (written file.new ≡ written file.old
+        ensures written { OnOk result (all_written file.new ≡ all_written file.old
             ++ printed (flat_map (numbered_zones self.now.classes self.now.labels self.now.plan)
             (old_places self.now.labels))) }
     {

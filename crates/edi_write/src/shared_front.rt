@@ -1,7 +1,7 @@
 //! A canonical file on its way, whose front another file shares.
 
 ghost use Rattle.std.specs.Prelude.{◌≡◌, ◌≤◌, [], length};
-ghost use Rattle.edi_write.specs.inner.SharedFronts.{written};
+ghost use Rattle.edi_write.specs.inner.SharedFronts.{all_written};
 
 use crate::page::Page;
 use std::alloc::Global;
@@ -22,7 +22,7 @@ impl<'a> SharedFront<'a> {
     pub(crate) fn new(alloc: Global, other: &'a [u8]) -> SharedFront<'a>
         ensures other { result.other.now ≡ other.now }
         ensures within { result.front ≤ length result.other.now }
-        ensures written { written result ≡ [] }
+        ensures written { all_written result ≡ [] }
     {
         SharedFront {
             other,
@@ -38,7 +38,7 @@ impl<'a> SharedFront<'a> {
         requires within { self.old.front ≤ length self.old.other.now }
         ensures other { self.new.other.now ≡ self.old.other.now }
         ensures within { self.new.front ≤ length self.new.other.now }
-        ensures written { written self.new ≡ written self.old }
+        ensures written { all_written self.new ≡ all_written self.old }
     {
         if !self.is_shared {
             return;

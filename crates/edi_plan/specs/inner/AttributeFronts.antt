@@ -22,8 +22,8 @@ front_with None value = front_of_value value
 front_with (Some set) value = 2 ^ 64 - 1
 
 -- the front of an attribute
-abbrev pub front_of : PlanAttribute → ℕ
-front_of a = front_with a.tex a.value
+abbrev pub attribute_front : PlanAttribute → ℕ
+attribute_front a = front_with a.tex a.value
 
 -- its value, where it is a text, consists of bytes
 abbrev pub HasBytes : PlanAttribute → Type 0

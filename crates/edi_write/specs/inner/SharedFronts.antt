@@ -3,5 +3,5 @@ use Rattle.std.specs.Prelude.{ℕ, List, ◌++◌, take}
 use Rattle.edi_write.specs.declared.shared_front.SharedFront.{SharedFront}
 
 -- what is written so far
-abbrev pub written : SharedFront → List ℕ
-written b = take b.front b.other.now ++ b.page.file.items
+abbrev pub all_written : SharedFront → List ℕ
+all_written b = take b.front b.other.now ++ b.page.file.items

@@ -5,7 +5,7 @@ use Rattle.edi_record.specs.CanonicalZones.{begin_zone, cse_zone, end_zone}
 use Rattle.edi_plan.specs.Plans.{PlanData}
 use Rattle.edi_rank.specs.Arranged.{old_places}
 use Rattle.edi_write.specs.inner.Numbered.{numbered_zones}
-use Rattle.edi_write.specs.inner.SharedFronts.{written}
+use Rattle.edi_write.specs.inner.SharedFronts.{all_written}
 use Rattle.edi_write.proofs.LaidOut.{laid_out, joined_parts}
 use Rattle.edi_write.proofs.SharedFronts.{on_page}
 use Rattle.edi_write.proofs.canon.write_canon_behind.Goals as goal
@@ -22,7 +22,7 @@ returns-clause-written c =
     let front = take first.front first.other.now in
     let opened = front ++ c.write_begin.new.page.file.items in
     let ended = take last.front last.other.now ++ c.write.new.self.file.items in
-    let parts = joined_parts begin records end_zone (written first) opened (written last) ended c.new-file.ensures.written
+    let parts = joined_parts begin records end_zone (all_written first) opened (all_written last) ended c.new-file.ensures.written
     (on_page front first.page.file.items c.write_begin.new.page.file.items (printed begin) c.in_ok-write_begin.ensures)
     c.in_ok-write_records.ensures.written
     (on_page (take last.front last.other.now) last.page.file.items c.write.new.self.file.items (printed_zone end_zone) c.in_ok-write.ensures) in

@@ -5,7 +5,7 @@ use Rattle.edi_line.specs.Printing.{printed}
 use Rattle.edi_line.proofs.EachElement.{each_in_front, each_behind}
 use Rattle.edi_plan.specs.Plans.{IsPlace}
 use Rattle.edi_write.specs.declared.openings.Opening.{Opening}
-use Rattle.edi_write.specs.inner.SharedFronts.{written}
+use Rattle.edi_write.specs.inner.SharedFronts.{all_written}
 use Rattle.edi_write.specs.inner.Numbered.{numbered_zones}
 use Rattle.edi_write.proofs.SharedFronts.{on_page}
 use Rattle.edi_write.proofs.Opened.{IsOpened, all_opened, batch_more, places_opened}
@@ -36,8 +36,8 @@ loop-rest-preserved c =
       there = each_behind (IsPlace l.plan) batch behind (subst (AllByRecursion (IsPlace l.plan)) cut c.loop-rest.invariant.there);
       other = c.drop_shared.ensures.other ∙ c.loop-rest.invariant.other;
       within = c.drop_shared.ensures.within;
-      written = batch_more f batch behind (written old) (written c.drop_shared.new.self) (written c.args.file.now ++ printed (flat_map f c.args.places.now))
+      written = batch_more f batch behind (all_written old) (all_written c.drop_shared.new.self) (all_written c.args.file.now ++ printed (flat_map f c.args.places.now))
           (c.drop_shared.ensures.written ∙ on_page (take old.front old.other.now) old.page.file.items c.write_opened.new.page.file.items (printed (flat_map f batch))
           (c.in_ok-write_opened.ensures.written ∙ ap (λ ps. old.page.file.items ++ printed (flat_map f ps)) places))
-          (sym (ap (λ ps. written old ++ printed (flat_map f ps)) cut) ∙ c.loop-rest.invariant.written);
+          (sym (ap (λ ps. all_written old ++ printed (flat_map f ps)) cut) ∙ c.loop-rest.invariant.written);
     }
