@@ -3,7 +3,7 @@
    nothing is run twice. Preloaded, so that the program under test is the built one.
 
    The environment: COUNTS is the descriptor that gets, at the end, a line of four numbers: the growths, the copies that ended
-   as they do with ample memory, those of which a call was made again with ample memory, and those that ended for want of it. A copy that ends otherwise has its output
+   as they do with ample memory, those of which a call was made again with ample memory, and those that ended for lack of it. A copy that ends otherwise has its output
    on the same descriptor, and the run ends. FILES is how many files the run reads before growths count. */
 #define _GNU_SOURCE
 #include <dlfcn.h>

@@ -40,7 +40,7 @@ def run(words, library, number, out):
 
 
 def lacks_memory(answer, wanted):
-    """Nothing went out, for want of memory, and OUT is not there or whole."""
+    """Nothing went out, for lack of memory, and OUT is not there or whole."""
     return answer[:3] == (5, b"", b"out of memory\n") and answer[3] in (None, wanted[3])
 
 
@@ -57,7 +57,7 @@ def lacks_lines(answer, wanted):
 
 
 def lacks_list(answer, wanted):
-    """Nothing went out, for want of memory, which is said, perhaps of the file that was read."""
+    """Nothing went out, for lack of memory, which is said, perhaps of the file that was read."""
     said = answer[2].splitlines()
     return answer[:2] == (5, b"") and len(said) == 1 and (said[0] == b"out of memory" or said[0].endswith(b": out of memory"))
 

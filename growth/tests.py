@@ -1,5 +1,5 @@
 #!/usr/bin/env python3
-"""Refuses each growth of memory of the cases, which run each public call that can answer want of memory, and of the built tests.
+"""Refuses each growth of memory of the cases, which run each public call that can answer lack of memory, and of the built tests.
 
     cd crates/conform/data && rt run conform builds out/conform
     cd crates/NAME && rt test                builds out/NAME_tests
@@ -61,7 +61,7 @@ def swept(name, library):
 
 
 def main():
-    print("| cases or test | growths refused | made again with memory | ended for want of memory | as with ample memory |")
+    print("| cases or test | growths refused | made again with memory | ended for lack of memory | as with ample memory |")
     print("|---|---|---|---|---|")
     with tempfile.TemporaryDirectory() as folder:
         library = os.path.join(folder, "each.so")

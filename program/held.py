@@ -79,7 +79,7 @@ def of_no_list(room, command, made):
 
 
 def of_words(room):
-    """Words that can't be meant."""
+    """Arguments that make no sense."""
     for name, words in (("a sheet", ["--check", "list", "s", "d", "v"]), ("the schema", ["--schema", "--check", "list", "s", "d"])):
         room.expect(f"a list and {name}", ["hash", *words], (3, b"", b"hash --check LIST takes SCD and DIC alone\n"))
     room.expect("two inputs by -", ["hash", "--check", "-", "-", "d"], (3, b"", b"only one input can be -\n"))

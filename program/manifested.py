@@ -271,7 +271,7 @@ def against(room, parts):
 
 
 def misused(room):
-    """Words that can't be meant."""
+    """Arguments that make no sense."""
     room.expect("both", ["delivery", "--manifest", "m", "--check", "m", "D"], (3, b"", MISUSED))
     room.expect("a manifest of two", ["delivery", "--manifest", "m", "D", "D"], (3, b"", MISUSED))
     room.expect("two against a manifest", ["delivery", "--check", "m", "D", "D"], (3, b"", MISUSED))

@@ -109,7 +109,7 @@ def words_out(words):
 
 
 def refused_growths(room):
-    """Each growth of memory of a short run, refused in turn: the answer, or want of memory, which is said."""
+    """Each growth of memory of a short run, refused in turn: the answer, or lack of memory, which is said."""
     check = room.report.check
     library = compiled(room, GROWTH, "refuse.c", "growths")
     if library is None:

@@ -74,7 +74,7 @@ static bytes scd, dic, none, sheets[SHEETS], pairing;
 
 static const char *const names[CALLS] = {"load", "check", "canonical", "digest", "explain", "compare", "pairing", "verify", "diff", "pair_records", "diff by object", "diff as JSON"};
 
-/* The records paired, and their pairs let go. */
+/* The records paired, and their pairs freed. */
 static edicad_answer paired(edicad_schema *schema, bytes a, bytes b) {
     edicad_pairs pairs = EDICAD_EMPTY;
     edicad_answer answer = edicad_pair_records(schema, a.at, a.length, b.at, b.length, &pairs);

@@ -8,7 +8,7 @@ use crate::{
 use edi_schema::Schema;
 use std::alloc::{AllocError, Global};
 
-/// What a call answers to a case. The only error is want of memory.
+/// What a call answers to a case. It fails only if memory runs out.
 pub(crate) fn answer(
     alloc: Global,
     call: &str,

@@ -1,4 +1,4 @@
--- What is said of words that can't be meant.
+-- What is said of arguments that make no sense.
 use Rattle.std.specs.Prelude.{ℕ, Bool, true, false, List, ◌++◌, codes}
 use Rattle.edi_files.specs.Reasons.{ended}
 use Rattle.edi_shown.specs.Shown.{shown_bytes}
@@ -21,7 +21,7 @@ bad_kinds_lines bad =
     ended (misuse_text (BadKinds bad))
     ++ ended (codes "edicad: --kinds " ++ shown_bytes bad.given.now ++ codes ": " ++ kinds_fault_words bad.fault)
 
--- what is said of words that can't be meant
+-- what is said of arguments that make no sense
 abbrev pub misuse_lines : Misuse → List ℕ
 misuse_lines (BadKinds bad) = bad_kinds_lines bad
 misuse_lines TwoStandard = ended (misuse_text TwoStandard)

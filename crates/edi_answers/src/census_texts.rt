@@ -1,4 +1,5 @@
-//! The lines in a form on all that sheets break, and on how often each rule is broken. Each error is want of memory.
+//! The lines in a form on all that sheets break, and on how often each rule is broken. Each error means that memory
+//! ran out.
 ghost use Rattle.std.specs.Prelude.{◌≡◌, ◌++◌, ◌==◌, IfOk, OnOk, flat_map, count_by};
 ghost use Rattle.edi_compare.specs.Rules.{Breaks};
 ghost use Rattle.edi_line.specs.AllBroken.{AreAllBroken};

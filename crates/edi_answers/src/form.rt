@@ -18,7 +18,7 @@ pub enum AnswerForm {
     Json,
 }
 
-/// The text of an outcome in a form, by the names of the inputs and of the output. The only error is want of memory.
+/// The text of an outcome in a form, by the names of the inputs and of the output. It fails only if memory runs out.
 pub fn text_in_form(
     alloc: Global,
     form: AnswerForm,
@@ -35,7 +35,7 @@ pub fn text_in_form(
     }
 }
 
-/// Words in a form: as they are, or a line of JSON for each of their lines. The only error is want of memory.
+/// Words in a form: as they are, or a line of JSON for each of their lines. It fails only if memory runs out.
 pub fn words_in_form(alloc: Global, form: AnswerForm, words: Vec<u8>) -> Result<Vec<u8>, AllocError>
     ensures text { IfOk result (λ text. text.items ≡ words_in_form form words.items) }
     ensures read { IfOk result (λ text. AreWordsReadIn form words.items text.items) }

@@ -99,7 +99,7 @@ fn read_file<F: Folder>(
     }
 }
 
-// Whether a fault is want of memory, as an error.
+// Whether a fault is lack of memory, as an error.
 fn but_memory(fault: &RunFault) -> Result<(), AllocError>
     ensures { OnOk result (IsOther fault.now) }
 {

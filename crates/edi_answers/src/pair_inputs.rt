@@ -198,7 +198,7 @@ fn load(alloc: Global, kinds: &GivenKinds<'_>, bytes: PairBytes) -> Result<Loade
     Ok((schema, first, second))
 }
 
-// All bytes of the input that was opened for a path: in a list, or in pieces of which each is let go when its lines are
+// All bytes of the input that was opened for a path: in a list, or in pieces of which each is freed when its lines are
 // read.
 fn read_at<F: Folder, G: Gathering + Drop>(
     alloc: Global,

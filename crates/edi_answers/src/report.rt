@@ -182,8 +182,8 @@ pub fn say_unwritten<E: ByteOut>(err: &mut E) -> u8
     WRITE_STATUS
 }
 
-/// Says why words can't be meant, and of codes that are bad what was given. Gives the exit status: 3, or 5 if there is
-/// no memory for the lines.
+/// Says why arguments make no sense, and of bad codes what was given. Gives the exit status: 3, or 5 if there is no
+/// memory for the lines.
 pub fn say_misuse<E: ByteOut>(alloc: Global, err: &mut E, misuse: Misuse<'_>) -> u8
     ensures { ((result ≡ 3) × Warns (written E.ByteOut err.old err.new) (misuse_lines misuse.entry))
         ⊎ ((result ≡ 5) × IsTrue (shows_words misuse.entry) × LacksMemory (written E.ByteOut err.old err.new)) }

@@ -20,7 +20,7 @@ use std::alloc::{AllocError, Global};
 /// this schema: it has an entry for each record of the first and takes these one to one onto the
 /// records of the second; it turns arcs alone; and after these reversals each record is the one that it
 /// goes to, but for the order of attributes and of the ends behind the origin. A true answer asks for
-/// no trust in where the pairing came from. The only error is want of memory.
+/// no trust in where the pairing came from. It fails only if memory runs out.
 pub fn check_pairing(
     alloc: Global,
     schema: &Schema,
@@ -38,7 +38,7 @@ pub fn check_pairing(
 }
 
 /// Why a pairing doesn't carry the first plan onto the second, of two sheets that were accepted under this schema, or
-/// nothing where it carries: `check_pairing` is this, without the reason. The only error is want of memory.
+/// nothing where it carries: `check_pairing` is this, without the reason. It fails only if memory runs out.
 pub fn find_uncarried(
     alloc: Global,
     schema: &Schema,

@@ -19,7 +19,7 @@ use std::alloc::{AllocError, Global};
 
 /// Whether two sheets that were accepted under this schema state the same plan, as `compare` says it of their files:
 /// `Verdict::Same` with a pairing that carries the first plan onto the second, or `Verdict::Different` with the number
-/// of the first line in which their canonical files differ, where no pairing carries. The only error is want of memory.
+/// of the first line in which their canonical files differ, where no pairing carries. It fails only if memory runs out.
 pub fn compare_accepted(
     alloc: Global,
     schema: &Schema,
@@ -66,7 +66,7 @@ fn form_of_plan(alloc: Global, schema: &Schema, sheet: &Accepted) -> Result<Plan
     Ok(PlanForm { labels, file })
 }
 
-/// The labels of the plan of an accepted sheet, in which no two objects are equal. The only error is want of memory.
+/// The labels of the plan of an accepted sheet, in which no two objects are equal. It fails only if memory runs out.
 pub fn labels_of(alloc: Global, schema: &Schema, sound: &Sound) -> Result<Labels, AllocError>
     requires { IsAcceptedPlan schema.now sound.now }
     ensures { IfOk result (AreLabels schema.now sound.now) }

@@ -22,7 +22,7 @@ use edi_record::RecordFault;
 use indexmap::IndexSet;
 use std::alloc::{AllocError, Global};
 
-/// Writes lines, if there are any and there was memory for them, and gives this status, or that of want of memory.
+/// Writes lines, if there are any and there was memory for them, and gives this status, or that of lack of memory.
 pub(crate) fn say_lines<E: ByteOut>(
     err: &mut E,
     lines: &Result<Vec<u8>, AllocError>,

@@ -18,7 +18,7 @@ use Rattle.edi_delivery.specs.declared.lot.Lot.{Lot}
 
 -- ---- one answer
 
--- the fault is want of memory
+-- the fault is lack of memory
 abbrev pub WantsMemory : DeliveryFault → Type 0
 WantsMemory (Line (line.Memory e)) = ⊤
 WantsMemory (Line (line.Broken rule at)) = ⊥

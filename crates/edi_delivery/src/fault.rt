@@ -12,10 +12,10 @@ use thiserror::Error;
 /// Why a file states no delivery.
 #[derive(Debug, Drop, Error)]
 pub enum DeliveryFault {
-    /// One of the rules 101 to 110, or want of memory.
+    /// One of the rules 101 to 110, or lack of memory.
     #[error(transparent)]
     Line(LineFault),
-    /// One of the rules 701 to 711 with its record, counted from 1, or want of memory.
+    /// One of the rules 701 to 711 with its record, counted from 1, or lack of memory.
     #[error(transparent)]
     Record(RecordFault),
 }
@@ -36,7 +36,7 @@ impl From<RecordFault> for DeliveryFault {
     }
 }
 
-/// Why one record is refused: want of memory, or the least rule that it breaks.
+/// Why one record is refused: lack of memory, or the least rule that it breaks.
 #[derive(Drop)]
 pub(crate) enum LotFault {
     Memory(AllocError),

@@ -127,7 +127,7 @@ pub fn diff(
     )
 }
 
-/// What `diff` gives of files that are let go, where they are owned, one after the other.
+/// What `diff` gives of files that are freed, if they are owned, one after the other.
 pub fn diff_from(
     alloc: Global,
     schema: &Schema,
@@ -144,7 +144,7 @@ pub fn diff_from(
     Ok(found.difference)
 }
 
-/// What `diff` gives of files that are let go, where they are owned, one after the other; with the sheets and the
+/// What `diff` gives of files that are freed, if they are owned, one after the other; with the sheets and the
 /// matching that it is reported by. The classes of both plans are of the schema.
 pub fn find_differences(
     alloc: Global,
@@ -175,7 +175,7 @@ pub fn find_differences(
     })
 }
 
-/// What two sheets have in common, and what differs. The only error is want of memory.
+/// What two sheets have in common, and what differs. It fails only if memory runs out.
 fn compare_sheets(
     alloc: Global,
     schema: &Schema,

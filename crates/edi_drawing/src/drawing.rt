@@ -38,7 +38,7 @@ pub(crate) fn draw_from(
 }
 
 /// What `edi_diff::diff` gives of two sheets of these names under a schema, with a picture of both, or their refusal.
-/// The files are let go, where they are owned, one after the other.
+/// The files are freed, if they are owned, one after the other.
 pub fn draw_difference_from(
     alloc: Global,
     schema: &Schema,

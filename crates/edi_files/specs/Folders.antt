@@ -21,7 +21,7 @@ pub record Goes (before now : ℕ) (past since : Leavings) (P : List ℕ → Opt
   pub later : before ≤ now
   pub each : (t : ℕ) (path : List ℕ) (c : Option (List ℕ)) → t ≤ before → since t path c → past t path c ⊎ P path c
 
--- a fact for each reason why a path can't be written to: want of memory, or the path itself
+-- a fact for each reason why a path can't be written to: lack of memory, or the path itself
 abbrev pub MatchOut : OutFault → Type 0 → Type 0 → Type 0
 MatchOut (Memory e) M U = M
 MatchOut Unwritable M U = U

@@ -38,7 +38,7 @@ abbrev pub site_or_null : Option Site → Json
 site_or_null None = null
 site_or_null (Some site) = site_value site
 
--- a name, if it is said, in front of others
+-- a name, if there is one, in front of others
 abbrev pub name_if : Bool → List ℕ → Items → Items
 name_if said name names = if said then item (string name) names else names
 

@@ -13,7 +13,7 @@ use edi_record::Kind;
 use edi_report::{NO_PARTS, Reporter, parts_at};
 use std::alloc::{AllocError, Global};
 
-/// What differs between two sheets, as lines of JSON (docs/JSON.md). The only error is want of memory.
+/// What differs between two sheets, as lines of JSON (docs/JSON.md). It fails only if memory runs out.
 pub fn differences_json(alloc: Global, report: &Reporter<'_>) -> Result<Vec<u8>, AllocError>
     ensures text { IfOk result (λ text. text.items ≡ differences_json report.now) }
     ensures read { IfOk result (λ text. ReadsAs text.items (difference_values report.now)) }

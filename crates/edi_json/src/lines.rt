@@ -1,4 +1,4 @@
-//! Lines of JSON, appended to a text. Each error is want of memory.
+//! Lines of JSON, appended to a text. Each error means that memory ran out.
 
 ghost use Rattle.std.specs.Prelude.{◌≡◌, ◌++◌, ◌∷◌, [], OnOk, option_copied};
 ghost use Rattle.json.specs.Lex.{tokens};

@@ -1,4 +1,4 @@
-//! Members of objects, written token by token. Each error is want of memory.
+//! Members of objects, written token by token. Each error means that memory ran out.
 
 ghost use Rattle.std.specs.Prelude.{◌≡◌, ◌++◌, ◌∷◌, [], IfOk, OnOk, codes, option_copied, string_bytes};
 ghost use Rattle.json.specs.Json.{array, null, string};
@@ -126,7 +126,7 @@ pub(crate) fn put_site(
     writer.end_object()
 }
 
-/// Appends a name, if it is said.
+/// Appends a name, if there is one.
 fn put_name(writer: &mut Writer, said: bool, name: &str) -> Result<(), AllocError>
     ensures before { writer.new.before ≡ writer.old.before }
     ensures tokens { OnOk result (writer.new.tokens ≡ writer.old.tokens ++ name_tokens said name.now) }

@@ -23,7 +23,7 @@ use std::alloc::{AllocError, Global};
 /// The rule that codes of kinds break where they don't fit a schema (docs/FORMAT.md).
 const KINDS_RULE: u16 = 604;
 
-/// What a run came to, as a line of JSON (docs/JSON.md, "Answers"). The only error is want of memory.
+/// What a run came to, as a line of JSON (docs/JSON.md, "Answers"). It fails only if memory runs out.
 ///
 /// The first of two sheets is called so where there are five names or six.
 pub fn json_of(alloc: Global, outcome: &Outcome, names: &[&[u8]]) -> Result<Vec<u8>, AllocError>

@@ -1,4 +1,4 @@
-//! Lines of JSON on all that sheets break (docs/JSON.md, "All that is broken"). Each error is want of memory.
+//! Lines of JSON on all that sheets break (docs/JSON.md, "All that is broken"). Each error means that memory ran out.
 
 ghost use Rattle.std.specs.Prelude.{◌≡◌, ◌++◌, ◌∷◌, [], IfOk, OnOk, map};
 ghost use Rattle.json.specs.Tree.{json_tokens};

@@ -14,7 +14,7 @@ use edi_json::members::{begin, put_bytes, put_text};
 use json::Writer;
 use std::alloc::{AllocError, Global};
 
-/// The line of the digest of a schema, by the name of its file of classes. The only error is want of memory.
+/// The line of the digest of a schema, by the name of its file of classes. It fails only if memory runs out.
 pub fn json_of_schema_digest(
     alloc: Global,
     name: &[u8],
@@ -26,7 +26,7 @@ pub fn json_of_schema_digest(
     json_of_digest(alloc, "schema", name, digest)
 }
 
-/// The line of the digest of a sheet, by the name of its file. The only error is want of memory.
+/// The line of the digest of a sheet, by the name of its file. It fails only if memory runs out.
 pub fn json_of_sheet_digest(
     alloc: Global,
     name: &[u8],
@@ -39,7 +39,7 @@ pub fn json_of_sheet_digest(
 }
 
 /// The line of a sheet that is refused, by the name of its file, and nothing of a fault that is no refusal of a sheet.
-/// The only error is want of memory.
+/// It fails only if memory runs out.
 pub fn json_of_refused_sheet(
     alloc: Global,
     name: &[u8],

@@ -1,4 +1,4 @@
-//! Parts of the line of an answer, written token by token. Each error is want of memory.
+//! Parts of the line of an answer, written token by token. Each error means that memory ran out.
 
 ghost use Rattle.std.specs.Prelude.{◌≡◌, ◌++◌, OnOk, codes};
 ghost use Rattle.json.specs.Json.{no_members};

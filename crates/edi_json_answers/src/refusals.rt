@@ -1,5 +1,5 @@
-//! The line of JSON of a sheet that is accepted or refused, and of a schema that is refused. The only error is want of
-//! memory.
+//! The line of JSON of a sheet that is accepted or refused, and of a schema that is refused. It fails only if memory
+//! runs out.
 
 ghost use Rattle.std.specs.Prelude.{◌≡◌, ◌∷◌, [], IfOk, codes};
 ghost use Rattle.json.specs.Json.{no_members};

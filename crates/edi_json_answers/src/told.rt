@@ -15,7 +15,7 @@ use edi_json::members::{begin, put_bytes};
 use json::Writer;
 use std::alloc::{AllocError, Global};
 
-/// A line of JSON for each line of a text. The only error is want of memory.
+/// A line of JSON for each line of a text. It fails only if memory runs out.
 pub fn told_lines(alloc: Global, text: &[u8]) -> Result<Vec<u8>, AllocError>
     ensures text { IfOk result (λ told. told.items ≡ json_text (told_values text.now)) }
     ensures read { IfOk result (λ told. ReadsAs told.items (told_values text.now)) }

@@ -70,7 +70,7 @@ line_taken lines left line given old new h t at =
       state = at.state;
     }
 
--- the zones that are done are handed on and let go
+-- the zones that are done are handed on and dropped
 pub zones_gone : (lines left : List Reading) (given done : List ZoneData) (old new : Reader) (h h_now : Handing) (Before After : List (List ZoneData) → List ZoneData → Type 0)
     → done ≡ (zoned old).done
     → (IsStateOf (with_zones handed_at_first given) h → IsStateOf (with_zones (with_zones handed_at_first given) done) h_now)

@@ -107,7 +107,7 @@ impl Feed {
     /// Where a line that has ended breaks one of the rules 101 to 105 or 107 to 110, the fault names
     /// the least such line, counted from 1 in the whole file, and the least rule that is broken
     /// there. It comes with the piece that brings the line's feed. A line without its feed is judged
-    /// later, and 106 at the end. After a fault, want of memory too, each call answers that fault.
+    /// later, and 106 at the end. After a fault, lack of memory too, each call answers that fault.
     pub fn feed(&mut self, piece: &[u8]) -> Result<(), LineFault>
         requires { self.old.refused ≡ None
             → (b : List ℕ) × StandsFor b self.old × (length b + length piece.now < 2 ^ 64 - 1) }
@@ -131,7 +131,7 @@ impl Feed {
 
     /// The zones of the file, each value owned by its zone. All pieces have come.
     ///
-    /// The answer is that of `zones` on the joined pieces, but for want of memory, and for where the
+    /// The answer is that of `zones` on the joined pieces, but for lack of memory, and for where the
     /// values lie: the last line is judged even without its feed, and then whether there was an end.
     pub fn finish(self) -> Result<Vec<Zone<'static>>, LineFault>
         requires { self.refused ≡ None → (b : List ℕ) × StandsFor b self × (length b < 2 ^ 64 - 1) }
@@ -159,7 +159,7 @@ impl Feed {
 }
 
 /// The zones of a file that comes in these pieces, each value owned by its zone: for every cutting, the
-/// answer of `zones` on the joined pieces, but for want of memory.
+/// answer of `zones` on the joined pieces, but for lack of memory.
 ///
 /// The file has at most 2^64 - 2 bytes. Where one of the rules 101 to 110 is broken, the fault names the
 /// least line with a broken rule, and the least rule that is broken there.

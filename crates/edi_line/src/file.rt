@@ -10,7 +10,7 @@ use std::alloc::{AllocError, Global};
 use std::borrow::CowSlice;
 use std::marker::Model;
 
-/// The bytes of a file in pieces, cut behind lines, so that each can be let go once its lines are read. They are fewer
+/// The bytes of a file in pieces, cut behind lines, so that each can be freed once its lines are read. They are fewer
 /// than 2^64 - 1.
 pub struct Pieces {
     /// Each ends with a line feed.

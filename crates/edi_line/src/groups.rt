@@ -194,7 +194,7 @@ pub fn read_groups<O: GroupOut>(
     read_last(alloc, Reader::new(alloc), Handing::new(), bytes, out)
 }
 
-/// What `read_groups` does with a file that is let go: at once when all its lines are read, or piece by piece.
+/// What `read_groups` does with a file that is freed: at once when all its lines are read, or piece by piece.
 pub fn read_groups_from<O: GroupOut>(
     alloc: Global,
     file: FileBytes<'_>,
@@ -211,7 +211,7 @@ pub fn read_groups_from<O: GroupOut>(
     }
 }
 
-/// Reads a file in pieces, of which each is let go when its lines are read.
+/// Reads a file in pieces, of which each is freed when its lines are read.
 fn read_groups_of_pieces<O: GroupOut>(
     alloc: Global,
     pieces: Pieces,

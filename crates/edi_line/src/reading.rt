@@ -182,7 +182,7 @@ impl<'a> Reader<'a> {
         })
     }
 
-    /// Whether so many zones have begun that those which are done should be used and let go.
+    /// Whether so many zones have begun that those which are done should be used and dropped.
     pub(crate) fn has_many(&self) -> bool {
         self.zones.has_many()
     }

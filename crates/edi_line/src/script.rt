@@ -163,7 +163,7 @@ impl Model for ScriptOut {
 
 impl ScriptOut {
     /// A sink that has taken nothing, of which no call has been made. The room, in bytes, is
-    /// reserved here, and want of memory is answered here alone. A `fault_at` of 0 never comes.
+    /// reserved here, and lack of memory is answered here alone. A `fault_at` of 0 never comes.
     pub fn new(
         alloc: Global,
         room: usize,

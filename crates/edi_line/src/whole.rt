@@ -78,7 +78,7 @@ impl Gathering for Pieces {
 }
 
 /// All bytes that the source gives before it has none left, which are at most `limit`: in a list, or in pieces that can
-/// be let go one by one.
+/// be freed one by one.
 ///
 /// It makes at most `limit` + 2 reads. After a fault the source has lost what was read. It isn't inlined, so that callers
 /// who read several sources take the stack of one buffer.

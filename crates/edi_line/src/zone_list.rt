@@ -66,7 +66,7 @@ impl<'a> ZoneList<'a> {
         self.is_open = false;
     }
 
-    /// Whether so many zones have begun that those which are done should be used and let go.
+    /// Whether so many zones have begun that those which are done should be used and dropped.
     pub(crate) fn has_many(&self) -> bool {
         self.zones.len() >= MANY
     }

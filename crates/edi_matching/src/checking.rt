@@ -14,7 +14,7 @@ use std::alloc::{AllocError, Global};
 /// Whether a matching holds between two sheets that were accepted under this schema: it has an entry for each record of
 /// the first, takes no two of these to one, turns matched arcs alone, and each record that it matches is the one that
 /// it goes to, as `check_pairing` has it, with all its ends. A true answer asks for no trust in where the matching came
-/// from. The only error is want of memory.
+/// from. It fails only if memory runs out.
 pub fn check_matching(
     alloc: Global,
     schema: &Schema,

@@ -24,7 +24,7 @@ use std::alloc::{AllocError, Global};
 /// face of a matched arc together with that on the same side of the arc it goes to, if the one is carried onto the
 /// other, and no link whose ends are matched together with one that it is carried onto. Which other faces and which
 /// objects it matches of sheets that differ is not promised: objects that a link of one class joins to one matched
-/// record, or that alone hold what they do, each if it holds the same. The only error is want of memory.
+/// record, or that alone hold what they do, each if it holds the same. It fails only if memory runs out.
 pub fn differences(
     alloc: Global,
     schema: &Schema,

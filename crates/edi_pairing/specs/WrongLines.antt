@@ -86,7 +86,7 @@ pub record IsWrongBy (a b : List RecordName) (file : List ℕ) (line : ℕ) (why
   pub wrong : IsFirstWrong a b file line
   pub reason : IsFirstReason a b line (name_at a (line - 2)) wrong.before.behind why
 
--- a fault other than want of memory names that line and that reason
+-- a fault other than lack of memory names that line and that reason
 abbrev pub IsPairingRefusal : List RecordName → List RecordName → List ℕ → PairingFault → Type 0
 IsPairingRefusal a b file (Memory e) = ⊤
 IsPairingRefusal a b file (Line at why) = IsWrongBy a b file at why

@@ -30,7 +30,7 @@ impl Drop for NamedSheet {
 }
 
 /// The plan of a sheet under a schema, and the names of its records, if no rule is broken; or the refusal that
-/// `edi_compare::accept` gives. The names are taken while the file is read, which is let go, where it is owned, as soon
+/// `edi_compare::accept` gives. The names are taken while the file is read, which is freed, if it is owned, as soon
 /// as its records are.
 pub fn name_sheet(alloc: Global, schema: &Schema, bytes: FileBytes<'_>) -> Result<NamedSheet, Fault>
     ensures sheet { IfOk result (IsNamedSheet schema.now (file_bytes bytes.entry)) }

@@ -4,7 +4,7 @@ ghost use Rattle.edi_record.specs.declared.fault.RecordFault.TheVariants.{Memory
 
 use std::alloc::{AllocError, AllocFailed};
 
-/// Why records state no plan: one of the rules 301 to 307 with its record, counted from 1, or want of memory.
+/// Why records state no plan: one of the rules 301 to 307 with its record, counted from 1, or lack of memory.
 pub use edi_record::RecordFault as RefFault;
 
 /// Why records state no plan, and the earlier link that 307 speaks of, by its place from 0.
@@ -25,7 +25,7 @@ impl From<AllocError> for Unplanned {
     }
 }
 
-/// Why a record has no place in a plan: the least rule that it breaks, or want of memory.
+/// Why a record has no place in a plan: the least rule that it breaks, or lack of memory.
 #[derive(Drop)]
 pub(crate) enum Unresolved {
     Memory(AllocError),

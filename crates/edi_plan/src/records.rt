@@ -262,7 +262,7 @@ pub(crate) struct Planned {
 }
 
 /// The records in the plan; or the first that breaks a rule of references, and the least rule there, of 307 with the
-/// earlier link. What the plan doesn't have of the records is let go on the way.
+/// earlier link. What the plan doesn't have of the records is freed on the way.
 pub(crate) fn plan_records(
     alloc: Global,
     schema: &Schema,

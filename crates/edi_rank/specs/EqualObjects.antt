@@ -75,7 +75,7 @@ pub data BreaksObjectRule (p : PlanData) (rule at : ℕ) : Type 0 where
 abbrev pub IsEqualObject : PlanData → ℕ → ℕ → Type 0
 IsEqualObject p place m = (m < place) × AreEqualObjects p m place
 
--- the first object equal to that of a fault by 501; want of memory speaks of none
+-- the first object equal to that of a fault by 501; lack of memory speaks of none
 abbrev pub IsEqualObjectIfAny : PlanData → RecordFault → Option ℕ → Type 0
 IsEqualObjectIfAny p (Memory e) earlier = earlier ≡ None
 IsEqualObjectIfAny p (Broken rule at) earlier = IsLeastIfAny (IsEqualObject p (at - 1)) earlier

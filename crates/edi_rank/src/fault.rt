@@ -3,7 +3,7 @@ ghost use Rattle.edi_record.specs.declared.fault.RecordFault.TheVariants.{Memory
 
 use std::alloc::AllocError;
 
-/// Why records have no numbers: rule 501 with its record, counted from 1, or want of memory.
+/// Why records have no numbers: rule 501 with its record, counted from 1, or lack of memory.
 pub use edi_record::RecordFault as RankFault;
 
 /// Why records have no numbers, and the earlier object that 501 speaks of, by its place from 0.

@@ -105,7 +105,7 @@ impl GroupOut for BrokenGroups {
 
 /// Each of the rules 201 to 208 that the records of a file break, with the number of its record, from 1, by records and in
 /// one record by rules; or the first broken rule of lines. A record of no known type (201) may break 202 to 205 as well,
-/// and no other (docs/FORMAT.md, "The order of the rules"). The file is let go as it is read, and the zones of one record
+/// and no other (docs/FORMAT.md, "The order of the rules"). The file is freed as it is read, and the zones of one record
 /// alone are in memory at a time.
 pub fn broken_records_from(alloc: Global, file: FileBytes<'_>) -> Result<Vec<BrokenRule>, LineFault>
     ensures records { IfOk result (λ list. (zones : List ZoneData) × IsZonesOf (file_bytes file.entry) zones

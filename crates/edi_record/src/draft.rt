@@ -35,7 +35,7 @@ use std::mem::replace;
 use std::sync::Arc;
 
 /// What is stored of the zones of a record that have come, each looked at once, beside its parts. It owns what it
-/// stores, so a zone may be let go as soon as it is taken.
+/// stores, so a zone may be freed as soon as it is taken.
 pub(crate) struct Draft {
     kind: Kind,
     identifier: Only<Identifier>,

@@ -17,7 +17,7 @@ pub struct End {
 }
 
 impl Drop for End {
-    // Where a block's ends are let go a call for each would take a third of the instructions.
+    // Where a block's ends are freed a call for each would take a third of the instructions.
     #[inline(always)]
     fn drop(self) {
         let End {

@@ -10,7 +10,7 @@ use edi_line::LineFault;
 use std::alloc::{AllocError, AllocFailed};
 use thiserror::Error;
 
-/// Why records are refused: a rule that is broken with its record, counted from 1, or want of memory. The rules 201 to
+/// Why records are refused: a rule that is broken with its record, counted from 1, or lack of memory. The rules 201 to
 /// 208 are those of records; the later phases have this fault with the rules 301 to 307, 401 to 406 and 501.
 #[derive(Debug, Drop, Error)]
 pub enum RecordFault {
@@ -23,7 +23,7 @@ pub enum RecordFault {
 /// Why a file states no sheet.
 #[derive(Debug, Drop, Error)]
 pub enum SheetFault {
-    /// One of the rules 101 to 110, or want of memory.
+    /// One of the rules 101 to 110, or lack of memory.
     #[error(transparent)]
     Line(LineFault),
     /// One of the rules 201 to 208.
@@ -31,7 +31,7 @@ pub enum SheetFault {
     Record(RecordFault),
 }
 
-/// Why the zones of one record state none: want of memory, or the least rule that they break.
+/// Why the zones of one record state none: lack of memory, or the least rule that they break.
 #[derive(Drop)]
 pub(crate) enum GroupFault {
     Memory(AllocError),

@@ -9,7 +9,7 @@ use std::mem;
 /// How many elements a list may have room for and still be kept for later ones.
 const MOST_KEPT: usize = 65_536;
 
-/// A length in four bytes, or want of memory where it has more.
+/// A length in four bytes, or lack of memory where it has more.
 fn place_of(len: usize) -> Result<u32, AllocError>
     ensures { IfOk result (λ place. place ≡ len) }
 {

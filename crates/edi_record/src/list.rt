@@ -181,7 +181,7 @@ pub fn read_sheet(alloc: Global, bytes: &[u8]) -> Result<Sheet, SheetFault>
     Ok(sheet)
 }
 
-/// What `read_sheet` gives, and what was given the zones of each record in the same pass, of which it had taken none.
+/// What `read_sheet` gives, and the observer, which is new and sees the zones of each record in the same pass.
 pub fn read_sheet_with<O: GroupOut + Drop>(
     alloc: Global,
     bytes: &[u8],
@@ -198,7 +198,7 @@ pub fn read_sheet_with<O: GroupOut + Drop>(
     read_sheet_from(alloc, FileBytes::Whole(CowSlice::Borrowed(bytes)), other)
 }
 
-/// What `read_sheet_with` gives of a file that is let go as it is read: at once at the end of its lines, or piece by
+/// What `read_sheet_with` gives of a file that is freed as it is read: at once at the end of its lines, or piece by
 /// piece.
 pub fn read_sheet_from<O: GroupOut + Drop>(
     alloc: Global,

@@ -128,7 +128,7 @@ impl<H: Drop, A: Drop, E: Drop> RemadeBlock<H, A, E> {
         Ok(())
     }
 
-    /// The records that are made. Their points and their extra zones are those of the block; the rest of it is let go.
+    /// The records that are made. Their points and their extra zones are those of the block; the rest of it is freed.
     pub(crate) fn into_made(self) -> Block<H, A, E>
         ensures { result ≡ self.made }
     {

@@ -118,7 +118,7 @@ impl<H: Drop, A: Drop, E: Drop> Remaking<H, A, E> {
     }
 
     /// Makes the first of the records that are left anew, with this head. Its attributes and its ends leave the lists
-    /// that they are in, and what the sheet's record had of these is let go with its block.
+    /// that they are in, and what the sheet's record had of these is freed with its block.
     pub fn put(
         &mut self,
         head: H,
@@ -146,7 +146,7 @@ impl<H: Drop, A: Drop, E: Drop> Remaking<H, A, E> {
         Ok(())
     }
 
-    /// The records that are made. Those that are left are let go.
+    /// The records that are made. Those that are left are freed.
     pub fn into_made(self) -> Blocks<H, A, E>
         ensures { result ≡ self.made }
     {

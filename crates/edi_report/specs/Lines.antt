@@ -21,7 +21,7 @@ abbrev pub lone_line : List ℕ → LocatedSheet → ℕ → List ℕ
 lone_line sign sheet k = sign ++ record_name_text sheet k
     ++ codes " (line " ++ decimal (site_at sheet k).line ++ codes ")" ++ line_feed ∷ []
 
--- a word, if it is said
+-- a word, if there is one
 abbrev pub word_if : Bool → List ℕ → List ℕ
 word_if said word = if said then word else []
 

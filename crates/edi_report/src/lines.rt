@@ -45,7 +45,7 @@ pub(crate) fn push_lone(
     text.extend_from_slice(b")\n")
 }
 
-/// Appends a word, if it is said.
+/// Appends a word, if there is one.
 fn push_word(text: &mut Vec<u8>, said: bool, word: &[u8]) -> Result<(), AllocError>
     ensures { OnOk result (text.new.items ≡ text.old.items ++ word_if said word.now) }
 {

@@ -66,7 +66,7 @@ impl LocatedSheet {
     }
 }
 
-/// The sheet of a file, with its sites, or the refusal. The file is let go, where it is owned, as soon as its sites and
+/// The sheet of a file, with its sites, or the refusal. The file is freed, if it is owned, as soon as its sites and
 /// its records are read: its bytes are not in memory beside the plan.
 pub fn locate_from(
     alloc: Global,

@@ -24,7 +24,7 @@ pub record IsEarlierByRule (p : PlanData) (rule place : ℕ) (earlier : Option �
   pub arcs : rule ≡ 405 → IsLeastIfAny (SharesPoints p place) earlier
   pub others : rule ≢ 403 → rule ≢ 405 → earlier ≡ None
 
--- the same of a fault; want of memory speaks of none
+-- the same of a fault; lack of memory speaks of none
 abbrev pub IsEarlierRecordIfAny : PlanData → RecordFault → Option ℕ → Type 0
 IsEarlierRecordIfAny p (Memory e) earlier = earlier ≡ None
 IsEarlierRecordIfAny p (Broken rule at) earlier = IsEarlierByRule p rule (at - 1) earlier

@@ -44,7 +44,7 @@ module _ {K : Type 0} (cmp : K → K → Ordering) (key : ℕ → K) (size : ℕ
     pub each : (m : ℕ) → m < size → slice_index numbers m ≡ rank m
     pub onto : (i : ℕ) → i < size → (m : ℕ) × (m < size) × (slice_index numbers m ≡ i + 1)
 
-  -- a fault other than want of memory names the least member with the key of an earlier one
+  -- a fault other than lack of memory names the least member with the key of an earlier one
   abbrev pub IsTie : TieFault → Type 0
   IsTie (Memory e) = ⊤
   IsTie (Tie m) = Ties m × ((n : ℕ) → Ties n → m ≤ n)

@@ -1,7 +1,7 @@
 use std::alloc::AllocError;
 use thiserror::Error;
 
-/// Why a plan is not sound: one of the rules 401 to 406 with its record, counted from 1, or want of memory.
+/// Why a plan is not sound: one of the rules 401 to 406 with its record, counted from 1, or lack of memory.
 pub use edi_record::RecordFault as TopoFault;
 
 /// Why members have no numbers.

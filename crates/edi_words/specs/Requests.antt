@@ -237,7 +237,7 @@ abbrev pub AsksForDigests : List Row → Type 0
 AsksForDigests rows = (with_schema : Bool) × IsFlag (one_of (codes "schema") rows) with_schema
     × ((with_schema || is_given (codes "VEC") rows) ≡ true)
 
--- The arguments of a subcommand can't be meant: the codes are no codes, standard input is to be read twice, explain is
+-- The arguments of a subcommand make no sense: the codes are no codes, standard input is to be read twice, explain is
 -- given two files of three, or no sheet of which all is to be said, or several and not all is to be said, hash is given
 -- no sheet and no list and isn't asked for the digest of the schema, or it has a list and one of these or is asked for
 -- JSON, the pairing of a comparison or the picture of a difference is to go to standard output, or delivery is to make
@@ -281,7 +281,7 @@ abbrev pub IsOptionFile : Text → List Row → Option (Bor (List ℕ)) → Type
 IsOptionFile id rows file =
     (option_map (λ (p : Bor (List ℕ)). p.now) file ≡ first_of id rows) × (is_option_standard id rows ≡ false)
 
--- what the subcommand and its arguments ask for, or want of memory for the paths of `hash`, `delivery` or `explain`,
+-- what the subcommand and its arguments ask for, or lack of memory for the paths of `hash`, `delivery` or `explain`,
 -- whose status is 5
 abbrev pub Means : Option (Text × List Row) → Request → Type 0
 Means met Bundle = met ≡ None
@@ -347,7 +347,7 @@ Means met (Answered status) =
     (rows : List Row) × ((met ≡ Some (codes "hash", rows)) ⊎ ((met ≡ Some (codes "delivery", rows))
     ⊎ (met ≡ Some (codes "explain", rows)))) × (status ≡ 5)
 
--- whether words in good form can't be meant
+-- whether arguments in good form make no sense
 abbrev pub is_misused : Request → Bool
 is_misused (Misused misuse) = true
 is_misused _ = false

@@ -157,7 +157,7 @@ pub enum PairRequest<'a> {
     },
 }
 
-/// Why words in good form can't be meant.
+/// Why arguments in good form make no sense.
 #[derive(Clone, Copy)]
 pub enum Misuse<'a> {
     /// The codes of the kinds are not four codes, none empty and no two equal.

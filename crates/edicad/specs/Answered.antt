@@ -38,7 +38,7 @@ IsMadeStatus run out err product kinds files path s =
     MatchBool (is_standard_path path) (run.untouched × IsSendStatus run out err product kinds files s)
     (IsPutStatus run out err product kinds files path s)
 
--- The status of words that can't be meant: 3, and the stream of errors says why; or 5, where there was no memory to
+-- The status of arguments that make no sense: 3, and the stream of errors says why; or 5, where there was no memory to
 -- show what was given.
 abbrev pub IsMisusedStatus : Stream → Stream → Misuse → ℕ → Type 0
 IsMisusedStatus out err misuse s =

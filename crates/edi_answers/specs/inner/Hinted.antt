@@ -2,7 +2,7 @@
 use Rattle.edi_compare.specs.declared.fault.RunFault.{RunFault}
 use Rattle.edi_compare.specs.declared.fault.RunFault.TheVariants.{Memory, Read, TooLong, Schema, First, Second, Write}
 
--- a fault other than want of memory
+-- a fault other than lack of memory
 abbrev pub IsOther : RunFault → Type 0
 IsOther (Memory e) = ⊥
 IsOther (Read input) = Unit {0}

@@ -13,7 +13,7 @@ use Rattle.edi_explain.specs.Found.{IsFound}
 use Rattle.edi_explain.specs.declared.examined.Found.{Found}
 use Rattle.edi_explain.specs.declared.refused.FoundRecords.{FoundRecords}
 
--- want of memory, or a fault by a rule of lines or of records, which speaks of no other record
+-- lack of memory, or a fault by a rule of lines or of records, which speaks of no other record
 abbrev pub SpeaksOfNone : Fault → Type 0
 SpeaksOfNone (Memory e) = ⊤
 SpeaksOfNone (Line rule at) = ⊤

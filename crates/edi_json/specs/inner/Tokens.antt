@@ -12,6 +12,6 @@ abbrev pub record_tokens : List ℕ → Kind → List Token
 record_tokens mark kind = opening_tokens (codes "record") ++ member_tokens (codes "mark") (string mark)
     ++ member_tokens (codes "type") (text_value (kind_code kind))
 
--- a name, if it is said
+-- a name, if there is one
 abbrev pub name_tokens : Bool → List ℕ → List Token
 name_tokens said name = if said then Token.string name ∷ [] else []

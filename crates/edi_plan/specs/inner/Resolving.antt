@@ -25,7 +25,7 @@ use Rattle.edi_plan.specs.declared.references.Subset.{Subset}
 use Rattle.edi_schema.specs.declared.by_role.ByRole.{ByRole}
 use Rattle.edi_plan.specs.declared.targets.Target.{Target}
 
--- a fault other than want of memory names such a rule
+-- a fault other than lack of memory names such a rule
 abbrev pub IsUnresolved : (ℕ → Type 0) → Unresolved → Type 0
 IsUnresolved breaks (Memory e) = ⊤
 IsUnresolved breaks (Broken rule) = breaks rule

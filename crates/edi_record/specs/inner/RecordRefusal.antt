@@ -8,12 +8,12 @@ use Rattle.edi_record.specs.declared.fault.GroupFault.TheVariants.{Memory as Gro
 use Rattle.edi_record.specs.declared.fault.RecordFault.{RecordFault}
 use Rattle.edi_record.specs.declared.fault.RecordFault.TheVariants.{Memory, Broken}
 
--- a fault of one record other than want of memory names this rule, which is broken
+-- a fault of one record other than lack of memory names this rule, which is broken
 abbrev pub IsBreachOf : ℕ → Bool → GroupFault → Type 0
 IsBreachOf rule is_broken (GroupMemory e) = ⊤
 IsBreachOf rule is_broken (GroupBroken r) = (r ≡ rule) × (is_broken ≡ true)
 
--- a fault of one record other than want of memory names the least rule that its zones break
+-- a fault of one record other than lack of memory names the least rule that its zones break
 abbrev pub IsGroupRefusal : List ZoneData → GroupFault → Type 0
 IsGroupRefusal group (GroupMemory e) = ⊤
 IsGroupRefusal group (GroupBroken rule) = first_broken (record_tests group) ≡ Some rule

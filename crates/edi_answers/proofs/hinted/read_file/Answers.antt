@@ -7,7 +7,7 @@ use Rattle.edi_answers.specs.WholeInputs.{WholeInputFault}
 use Rattle.edi_answers.specs.inner.Hinted.{IsOther}
 use Rattle.edi_answers.proofs.hinted.read_file.Goals as goal
 
--- a fault of reading, other than want of memory, is one of these
+-- a fault of reading, other than lack of memory, is one of these
 unread : (inputs : Inputs) (path : List ℕ) (e : RunFault) → IsOther e → WholeInputFault inputs path e → IsUnreadable inputs path
 unread inputs path e other (inl h) = inl h.0
 unread inputs path (Memory e) other (inr h) = absurd other

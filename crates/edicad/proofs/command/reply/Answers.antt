@@ -14,7 +14,7 @@ returns-in-Answered-clause-answer g c =
 pub returns-in-Answered-clause-status : goal.returns-in-Answered-clause-status
 returns-in-Answered-clause-status g c = rw c.in-Answered.is refl
 
--- what was said of words that can't be meant, where nothing went out
+-- what was said of arguments that make no sense, where nothing went out
 misused_status : (out err : Stream) (misuse : Misuse) (s : ℕ) → Prints out [] → ((s ≡ 3) × Warns err (misuse_lines misuse)) ⊎ ((s ≡ 5) × IsTrue (shows_words misuse) × LacksMemory err) → IsMisusedStatus out err misuse s
 misused_status out err misuse s none (inl h) = inl (h.0, (none, h.1))
 misused_status out err misuse s none (inr h) = inr (h.0, h.1, none, h.2)
