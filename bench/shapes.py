@@ -12,7 +12,8 @@ With `--commands` each sheet and its canonical file go through `hash`, `explain`
 With `--growth` what is printed for each of these is how many times as many instructions a tenth of the sheet takes as a hundredth, which doesn't depend on
 what else the machine does; `pieces`, which is large, is taken at a hundredth and a thousandth.
 Printed for each shape: the size of its sheet, seconds of user and system time, the peak memory as a multiple of the size,
-how many times as long as a tenth of it takes, and the program's answer. Ten times the sheet should take little more than ten times.
+how many times as long as a tenth of it takes, and the program's answer. The time is that of the quicker of two runs, and of the quickest of
+five at a tenth. Ten times the sheet should take little more than ten times.
 """
 import os
 import resource
@@ -27,6 +28,8 @@ HERE = os.path.dirname(os.path.abspath(__file__))
 PROGRAM = os.path.join(HERE, "..", "crates", "edicad", "out", "edicad")
 STACK = 1024 * 1024
 OTHERS, GROWTH = "--commands", "--growth"
+# how many runs there are of a sheet at full size, and of a smaller one
+FEW, MANY = 2, 5
 
 
 def zone(head, value):
@@ -217,6 +220,11 @@ def timed(words):
     return answer, usage.ru_utime + usage.ru_stime, usage.ru_maxrss * 1024
 
 
+def best(words, scale):
+    """The same of the quickest of several runs: of one that takes long there are fewer."""
+    return min((timed(words) for _ in range(FEW if scale == 1 else MANY)), key=lambda it: it[1])
+
+
 def put_schema(folder):
     """Writes the classes and the dictionary that the shapes name; their paths."""
     classes = [generate.class_record("PGE", name) for name in generate.PLACES]
@@ -259,7 +267,7 @@ def tried(name, scale, scd, dic, folder):
         shape, count = SHAPES[name]
         size = put(one, shape(count // scale))
         words = ["canon", scd, dic, one, other]
-    return *timed(words), size
+    return *best(words, scale), size
 
 
 def words_of(command, scd, dic, folder):
@@ -284,7 +292,7 @@ def through_commands(name, scd, dic, folder):
         timed(["canon", scd, dic, os.path.join(folder, "one"), os.path.join(folder, "other")])
         for command in COMMANDS:
             words, files = words_of(command, scd, dic, folder)
-            found.setdefault(command, []).append((*timed(words), size * files))
+            found.setdefault(command, []).append((*best(words, scale), size * files))
     for command, ((_, least, _, _), (answer, seconds, peak, size)) in found.items():
         print(f"| {name} | {command} | {seconds:.1f} s | {peak / size:.1f} | {seconds / max(least, 0.01):.1f} | {answer[:40]} |", flush=True)
 
@@ -326,7 +334,7 @@ def tables(folder, names, mode):
 def main():
     names = sys.argv[1:]
     mode = names.pop(0) if names[:1] in ([OTHERS], [GROWTH]) else None
-    with tempfile.TemporaryDirectory() as folder:
+    with tempfile.TemporaryDirectory(dir=parity.ROOM) as folder:
         tables(folder, names, mode)
 
 
