@@ -24,7 +24,7 @@ fn byte_or_zero(text: &[u8], place: usize) -> u8
     text.get(place).copied().unwrap_or(0)
 }
 
-/// The first seven bytes of a text as a number, behind a one. Of a shorter text it is as if zeros followed.
+/// The first seven bytes of a text as a number, behind a one, as if zeros followed a shorter text.
 fn front_of_text(text: &[u8]) -> u64
     ensures front { result ≡ front_from 1 7 text.now }
     ensures bytes { IsBytes text.now }
@@ -51,8 +51,8 @@ fn front_of_attribute(attribute: &PlanAttribute) -> u64
     }
 }
 
-/// An attribute, borrowed, with its class and the front of its value beside it. A sort of many attributes is several
-/// times as fast by these, since it hardly goes to where the attributes lie. Contracts see the attribute alone.
+/// An attribute, borrowed, with its class and the front of its value beside it. A sort of many attributes is more than
+/// twice as fast by these, since it hardly goes to where the attributes lie. Contracts see the attribute alone.
 #[derive(Drop)]
 pub(crate) struct AttributeKey<'a> {
     class: ClassRef,
@@ -93,7 +93,7 @@ impl<'a> AttributeKey<'a> {
     }
 }
 
-/// How attributes go: what stands beside them decides, and else they themselves.
+/// The order of two attributes: their classes decide it, else their fronts, and else the attributes themselves.
 fn compare(a: &AttributeKey<'_>, b: &AttributeKey<'_>) -> Ordering
     ensures { result ≡ attributes.cmp a.now b.now }
 {
